@@ -7,14 +7,13 @@ use log::command::Command;
 use log::counts::Counts;
 use log::counting::CountsDisplay;
 use log::expected::Expected;
-use log::expected::ExpectedDebug;
 use log::expected::ExpectedDisplay;
 use log::printing::CommandDisplay;
 use log::printing::OutcomeDisplay;
 use log::reading::command_of;
 
 // A line that is no command, and what it should have been.
-#[derive(Drop, Debug)]
+#[derive(Drop)]
 struct BadLine {
     line: u64,
     expected: Expected,
@@ -25,6 +24,13 @@ impl fmt::Display for BadLine as BadLineDisplay {
         let line = self.line;
         let expected = self.expected;
         write!(f, "line {line}: expected {expected}")
+    }
+}
+
+// What is reported at the end shows itself by this.
+impl fmt::Debug for BadLine as BadLineDebug {
+    fn fmt<W: fmt::Write>(&self, f: &mut fmt::Formatter<W>) -> fmt::Result {
+        write!(f, "{self}")
     }
 }
 

@@ -1,3 +1,5 @@
+ghost use mathlib.Core.Path.{_≡_};
+ghost use Rattle.log.specs.Reading.{Numbers, padded};
 use ir::block_arg::BlockArg;
 use ir::entities::Block;
 use ir::entities::Inst;
@@ -8,16 +10,30 @@ use ir::value_data::ValueDataPacked;
 use crate::command::Command;
 use crate::expected::Expected;
 
-// A number of 32 bits as it is written: decimal, with neither a sign nor a zero in front.
-fn number(word: &str) -> Option<u32> {
-    match word.as_bytes() {
-        [b'+', ..] | [b'0', _, ..] => None,
-        _ => word.parse::<u32>().ok(),
+// Whether a sign or a zero stands in front of a number.
+fn is_padded(word: &[u8]) -> bool
+    ensures { λ r. ⌜ r ≡ padded (now (word .entry)) ⌝ }
+{
+    match word {
+        [] => false,
+        [first, ..] => *first == b'+' || (*first == b'0' && word.len() > 1),
     }
 }
 
+// A number of 32 bits as it is written: decimal, with neither a sign nor a zero in front.
+fn number(word: &str) -> Option<u32>
+    ensures { λ r. ⌜ Numbers 4294967296 (now (word .entry)) r ⌝ }
+{
+    if is_padded(word.as_bytes()) {
+        return None;
+    }
+    word.parse::<u32>().ok()
+}
+
 // The same of 16 bits.
-fn small(word: &str) -> Option<u16> {
+fn small(word: &str) -> Option<u16>
+    ensures { λ r. ⌜ Numbers 65536 (now (word .entry)) r ⌝ }
+{
     let n = number(word)?;
     if n > 65535 { None } else { Some(n as u16) }
 }
