@@ -14,10 +14,10 @@ use crate::expected::Expected;
 fn is_padded(word: &[u8]) -> bool
     ensures { λ r. ⌜ r ≡ padded (now (word .entry)) ⌝ }
 {
-    match word {
-        [] => false,
-        [first, ..] => *first == b'+' || (*first == b'0' && word.len() > 1),
+    if word.is_empty() {
+        return false;
     }
+    word[0] == b'+' || (word[0] == b'0' && word.len() > 1)
 }
 
 // A number of 32 bits as it is written: decimal, with neither a sign nor a zero in front.
