@@ -1,16 +1,16 @@
 // Reads a log of commands on standard input, runs it and prints the record.
-use std::error::AnyError;
-use std::fmt;
-use std::io::BufRead;
-use std::io::BufReader;
 use log::command::Command;
-use log::counts::Counts;
 use log::counting::CountsDisplay;
+use log::counts::Counts;
 use log::expected::Expected;
 use log::expected::ExpectedDisplay;
 use log::printing::CommandDisplay;
 use log::printing::OutcomeDisplay;
 use log::reading::command_of;
+use std::error::AnyError;
+use std::fmt;
+use std::io::BufRead;
+use std::io::BufReader;
 
 // A line that is no command, and what it should have been.
 #[derive(Drop)]

@@ -1,13 +1,13 @@
-use std::test::*;
-use ir::block_arg::BlockArg;
-use ir::entities::Value;
-use ir::fault::Layer;
-use ir::fault::PackFault;
 use ir::arguments::BlockArgFromValue;
+use ir::block_arg::BlockArg;
 use ir::block_arg::BlockArgPartialEq;
+use ir::entities::Value;
 use ir::entities::ValuePartialEq;
+use ir::fault::Layer;
 use ir::fault::LayerPartialEq;
+use ir::fault::PackFault;
 use ir::fault::PackFaultPartialEq;
+use std::test::*;
 
 // An argument, and the word that holds it.
 #[derive(Clone, Copy)]
@@ -17,15 +17,42 @@ struct Case {
 }
 
 const CASES: [Case; 9] = [
-    Case { arg: BlockArg::Value(Value(0)), word: 0 },
-    Case { arg: BlockArg::Value(Value(7)), word: 7 },
-    Case { arg: BlockArg::Value(Value(1_073_741_823)), word: 0x3FFF_FFFF },
-    Case { arg: BlockArg::TryCallRet(0), word: 0x4000_0000 },
-    Case { arg: BlockArg::TryCallRet(2), word: 0x4000_0002 },
-    Case { arg: BlockArg::TryCallRet(1_073_741_823), word: 0x7FFF_FFFF },
-    Case { arg: BlockArg::TryCallExn(0), word: 0x8000_0000 },
-    Case { arg: BlockArg::TryCallExn(1), word: 0x8000_0001 },
-    Case { arg: BlockArg::TryCallExn(1_073_741_823), word: 0xBFFF_FFFF },
+    Case {
+        arg: BlockArg::Value(Value(0)),
+        word: 0,
+    },
+    Case {
+        arg: BlockArg::Value(Value(7)),
+        word: 7,
+    },
+    Case {
+        arg: BlockArg::Value(Value(1_073_741_823)),
+        word: 0x3FFF_FFFF,
+    },
+    Case {
+        arg: BlockArg::TryCallRet(0),
+        word: 0x4000_0000,
+    },
+    Case {
+        arg: BlockArg::TryCallRet(2),
+        word: 0x4000_0002,
+    },
+    Case {
+        arg: BlockArg::TryCallRet(1_073_741_823),
+        word: 0x7FFF_FFFF,
+    },
+    Case {
+        arg: BlockArg::TryCallExn(0),
+        word: 0x8000_0000,
+    },
+    Case {
+        arg: BlockArg::TryCallExn(1),
+        word: 0x8000_0001,
+    },
+    Case {
+        arg: BlockArg::TryCallExn(1_073_741_823),
+        word: 0xBFFF_FFFF,
+    },
 ];
 
 #[test]

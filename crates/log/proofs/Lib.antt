@@ -1,1 +1,3 @@
+mod Keywords
+mod Lines
 mod Spelling

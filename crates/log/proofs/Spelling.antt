@@ -31,8 +31,9 @@ begins n h = digit-at (decimal n) 0 (digits-decimal own n h) (decimal-some n h)
 
 zero-alone : (n : ℕ) → n < 2 ^ 64 → getD (decimal n) 0 0 ≡ 48 → length (decimal n) ≡ 1
 zero-alone n h e = elim (cases-eq n 0) [
-    inl z ↦ ap (λ (k : ℕ). length (decimal k)) z ∙ ap length (decimal-digit 0 (omega arith))
-  | inr s ↦ absurd (omega (arith, first-decimal n (omega arith) h)) ]
+  | inl z ↦ ap (λ (k : ℕ). length (decimal k)) z ∙ ap length (decimal-digit 0 (omega arith))
+  | inr s ↦ absurd (omega (arith, first-decimal n (omega arith) h))
+]
 
 pub bare : (n : ℕ) → n < 2 ^ 64 → padded (decimal n) ≡ false
 bare n h = let a = begins n h in let b = zero-alone n h in grind (arith, tells)

@@ -1,14 +1,14 @@
 ghost use mathlib.Core.Path.{_≡_};
 ghost use Rattle.std.specs.declared.option.Option.the-variants.{Some};
 ghost use Rattle.log.specs.Writing.{spaced, of-arg, of-command, of-data, of-layer, of-outcome, of-packed, word};
-use std::fmt;
+use crate::command::Command;
+use crate::outcome::Outcome;
 use ir::block_arg::BlockArg;
 use ir::fault::Layer;
 use ir::fault::PackFault;
 use ir::value_data::ValueData;
 use ir::value_data::ValueDataPacked;
-use crate::command::Command;
-use crate::outcome::Outcome;
+use std::fmt;
 
 // The same as text: a trait of another crate wants a type of this one.
 #[derive(Clone, Copy)]

@@ -1,8 +1,8 @@
 ghost use mathlib.Core.Path.{_≡_};
 ghost use Rattle.log.specs.Running.{outcome, accepted};
-use ir::block_arg::BlockArg;
 use crate::command::Command;
 use crate::outcome::Outcome;
+use ir::block_arg::BlockArg;
 
 impl Command {
     // Runs the command.
