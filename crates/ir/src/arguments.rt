@@ -8,7 +8,6 @@ use crate::entities::Value;
 use crate::fault::PackFault;
 
 const PAYLOAD_BITS: u32 = 30;
-
 const PAYLOAD_MASK: u32 = (1 << PAYLOAD_BITS) - 1;
 
 // Tag and payload side by side.

@@ -10,10 +10,7 @@ use crate::value_data::ValueDef;
 
 impl ValueData {
     // What stands in the table once a value is gone: an alias of nothing, with no type.
-    pub const RETIRED: ValueData = ValueData::Alias {
-        ty: Type::INVALID,
-        original: Value::RESERVED,
-    };
+    pub const RETIRED: ValueData = ValueData::Alias { ty: Type::INVALID, original: Value::RESERVED };
 
     pub fn ty(self) -> Type
         ensures { λ r. ⌜ r ≡ type self ⌝ }

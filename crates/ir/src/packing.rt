@@ -12,15 +12,11 @@ use crate::value_data::ValueData;
 use crate::value_data::ValueDataPacked;
 
 const TYPE_BITS: u16 = 14;
-
 const TYPE_MASK: u16 = (1 << TYPE_BITS) - 1;
 
 const TAG_INST: u16 = 0;
-
 const TAG_PARAM: u16 = 1;
-
 const TAG_ALIAS: u16 = 2;
-
 const TAG_UNION: u16 = 3;
 
 // A place in a list, which a packed definition holds in 32 bits, as the 16 bits that it has.
@@ -51,11 +47,7 @@ fn type_bits(flags: u16) -> u16
 
 impl ValueDataPacked {
     // The retired mark, packed.
-    pub const RETIRED: ValueDataPacked = ValueDataPacked {
-        x: 0,
-        y: 0xFFFF_FFFF,
-        flags: 0x8000,
-    };
+    pub const RETIRED: ValueDataPacked = ValueDataPacked { x: 0, y: 0xFFFF_FFFF, flags: 0x8000 };
 
     // The fields of a definition by its tag, or a refusal of its type.
     fn make(tag: u16, ty: Type, x: u32, y: u32) -> Result<ValueDataPacked, PackFault>
@@ -65,11 +57,7 @@ impl ValueDataPacked {
         if ty.0 > TYPE_MASK {
             return Err(PackFault::Wide(ty.0 as u32));
         }
-        Ok(ValueDataPacked {
-            x,
-            y,
-            flags: flags_of(tag, ty.0),
-        })
+        Ok(ValueDataPacked { x, y, flags: flags_of(tag, ty.0) })
     }
 
     // The type, off the flags alone. Tag and type give the flags back.
@@ -87,25 +75,10 @@ impl ValueDataPacked {
     {
         let ty = self.ty();
         match self.flags >> TYPE_BITS {
-            TAG_INST => Ok(ValueData::Inst {
-                ty,
-                num: narrow(self.x)?,
-                inst: Inst(self.y),
-            }),
-            TAG_PARAM => Ok(ValueData::Param {
-                ty,
-                num: narrow(self.x)?,
-                block: Block(self.y),
-            }),
-            TAG_ALIAS => Ok(ValueData::Alias {
-                ty,
-                original: Value(self.y),
-            }),
-            _ => Ok(ValueData::Union {
-                ty,
-                x: Value(self.x),
-                y: Value(self.y),
-            }),
+            TAG_INST => Ok(ValueData::Inst { ty, num: narrow(self.x)?, inst: Inst(self.y) }),
+            TAG_PARAM => Ok(ValueData::Param { ty, num: narrow(self.x)?, block: Block(self.y) }),
+            TAG_ALIAS => Ok(ValueData::Alias { ty, original: Value(self.y) }),
+            _ => Ok(ValueData::Union { ty, x: Value(self.x), y: Value(self.y) }),
         }
     }
 }
@@ -117,24 +90,9 @@ impl ValueData {
         ensures back { λ r. ⌜ elim r [ Ok p ↦ unpacked p ≡ Ok self | Err _ ↦ Unit {0} ] ⌝ }
     {
         match self {
-            ValueData::Inst { ty, num, inst } => ValueDataPacked::make(
-                TAG_INST,
-                ty,
-                num as u32,
-                inst.0,
-            ),
-            ValueData::Param { ty, num, block } => ValueDataPacked::make(
-                TAG_PARAM,
-                ty,
-                num as u32,
-                block.0,
-            ),
-            ValueData::Alias { ty, original } => ValueDataPacked::make(
-                TAG_ALIAS,
-                ty,
-                0,
-                original.0,
-            ),
+            ValueData::Inst { ty, num, inst } => ValueDataPacked::make(TAG_INST, ty, num as u32, inst.0),
+            ValueData::Param { ty, num, block } => ValueDataPacked::make(TAG_PARAM, ty, num as u32, block.0),
+            ValueData::Alias { ty, original } => ValueDataPacked::make(TAG_ALIAS, ty, 0, original.0),
             ValueData::Union { ty, x, y } => ValueDataPacked::make(TAG_UNION, ty, x.0, y.0),
         }
     }

@@ -48,16 +48,16 @@ fn small(word: &str) -> Option<u16>
 trait Numeral: Sized + Drop {
     ghost written: { Self → List ℕ };
 
-    ghost small: { Self → Type 0 };
+    ghost bounded: { Self → Type 0 };
 
     fn read(word: &str) -> Option<Self>
-        ensures { λ r. ⌜ Reads written small (now (word .entry)) r ⌝ };
+        ensures { λ r. ⌜ Reads written bounded (now (word .entry)) r ⌝ };
 }
 
 impl Numeral for u32 as U32Numeral {
     ghost written = { λ n. decimal n };
 
-    ghost small = { λ n. n < 4294967296 };
+    ghost bounded = { λ n. n < 4294967296 };
 
     fn read(word: &str) -> Option<u32> {
         number(word)
@@ -67,7 +67,7 @@ impl Numeral for u32 as U32Numeral {
 impl Numeral for u16 as U16Numeral {
     ghost written = { λ n. decimal n };
 
-    ghost small = { λ n. n < 65536 };
+    ghost bounded = { λ n. n < 65536 };
 
     fn read(word: &str) -> Option<u16> {
         small(word)
@@ -76,7 +76,7 @@ impl Numeral for u16 as U16Numeral {
 
 // The number that the only word writes.
 fn one<A: Numeral>(words: &[&str]) -> Option<A>
-    ensures { λ r. ⌜ Reads (λ a. A·Numeral .written a ∷ []) (A·Numeral .small) (texts (now (words .entry))) r ⌝ }
+    ensures { λ r. ⌜ Reads (λ a. A·Numeral .written a ∷ []) (A·Numeral .bounded) (texts (now (words .entry))) r ⌝ }
 {
     if words.len() != 1 {
         return None;
@@ -86,7 +86,7 @@ fn one<A: Numeral>(words: &[&str]) -> Option<A>
 
 // The two numbers that two words write.
 fn two<A: Numeral, B: Numeral>(words: &[&str]) -> Option<(A, B)>
-    ensures { λ r. ⌜ Reads (λ n. A·Numeral .written (n .0) ∷ B·Numeral .written (n .1) ∷ []) (λ n. A·Numeral .small (n .0) × B·Numeral .small (n .1)) (texts (now (words .entry))) r ⌝ }
+    ensures { λ r. ⌜ Reads (λ n. A·Numeral .written (n .0) ∷ B·Numeral .written (n .1) ∷ []) (λ n. A·Numeral .bounded (n .0) × B·Numeral .bounded (n .1)) (texts (now (words .entry))) r ⌝ }
 {
     if words.is_empty() {
         return None;
@@ -96,7 +96,7 @@ fn two<A: Numeral, B: Numeral>(words: &[&str]) -> Option<(A, B)>
 
 // The three numbers that three words write.
 fn three<A: Numeral, B: Numeral, C: Numeral>(words: &[&str]) -> Option<(A, (B, C))>
-    ensures { λ r. ⌜ Reads (λ n. A·Numeral .written (n .0) ∷ B·Numeral .written (n .1 .0) ∷ C·Numeral .written (n .1 .1) ∷ []) (λ n. A·Numeral .small (n .0) × (B·Numeral .small (n .1 .0) × C·Numeral .small (n .1 .1))) (texts (now (words .entry))) r ⌝ }
+    ensures { λ r. ⌜ Reads (λ n. A·Numeral .written (n .0) ∷ B·Numeral .written (n .1 .0) ∷ C·Numeral .written (n .1 .1) ∷ []) (λ n. A·Numeral .bounded (n .0) × (B·Numeral .bounded (n .1 .0) × C·Numeral .bounded (n .1 .1))) (texts (now (words .entry))) r ⌝ }
 {
     if words.is_empty() {
         return None;

@@ -6,4 +6,4 @@ returns-then-words-ne1 g c = λ a f e. not-one (c .args .words .now) _ (c .if-wo
 
 pub returns : need.returns
 returns g c =
-    read-one (g .A·Numeral .written) (g .A·Numeral .small) (c .args .words .now) _ (c .read .result) (c .if-words-ne1 .left) (c .read .ensures)
+    read-one (g .A·Numeral .written) (g .A·Numeral .bounded) (c .args .words .now) _ (c .read .result) (c .if-words-ne1 .left) (c .read .ensures)

@@ -8,4 +8,4 @@ returns-then-is-empty g c = λ n f e. no-words (c .args .words .now) _ _ (sym (c
 pub returns : need.returns
 returns g c =
     rw (c .zip .ensures)
-    (read-more (g .A·Numeral .written) (g .A·Numeral .small) _ _ (c .args .words .now) _ (c .read .result) (c .two .result) (sym (c .if-is-empty .ensures tt)) (c .read .ensures) (c .two .ensures))
+    (read-more (g .A·Numeral .written) (g .A·Numeral .bounded) _ _ (c .args .words .now) _ (c .read .result) (c .two .result) (sym (c .if-is-empty .ensures tt)) (c .read .ensures) (c .two .ensures))
