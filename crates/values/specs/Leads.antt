@@ -11,18 +11,15 @@ use Rattle.ir.specs.declared.entities.Value.{Value}
 use Rattle.ir.specs.declared.value_data.ValueData.{ValueData}
 use Rattle.ir.specs.declared.value_data.ValueData.the-variants.{Inst, Param, Alias, Union}
 use Rattle.ir.specs.Packing.{retired-mark, retired}
+use Rattle.values.specs.declared.kind.Kind.{Kind}
+use Rattle.values.specs.declared.kind.Kind.the-variants.{Root, Link, Gone}
 
--- What a definition is to whoever follows aliases: the end of the way, a way on to the original, or nothing.
-pub data Kind : Type 0 where
-  root : Kind
-  link : Value → Kind
-  gone : Kind
-
+-- what a definition is to whoever follows aliases
 abbrev pub kind : ValueData → Kind
-kind (Inst ty num inst) = root
-kind (Param ty num block) = root
-kind (Alias ty original) = cond (retired (Alias ty original)) gone (link original)
-kind (Union ty x y) = root
+kind (Inst ty num inst) = Root
+kind (Param ty num block) = Root
+kind (Alias ty original) = cond (retired (Alias ty original)) Gone (Link original)
+kind (Union ty x y) = Root
 
 -- the definition of a value; an unknown one reads as the retired mark
 abbrev pub at : List ValueData → Value → ValueData
@@ -36,16 +33,16 @@ Retired vs v = Exists vs v × (at vs v ≡ retired-mark)
 
 -- v is a live alias, of that original
 abbrev pub LiveAlias : List ValueData → Value → Value → Type 0
-LiveAlias vs v original = kind (at vs v) ≡ link original
+LiveAlias vs v original = kind (at vs v) ≡ Link original
 
 -- v exists, is not retired and is no alias
-abbrev pub Root : List ValueData → Value → Type 0
-Root vs v = kind (at vs v) ≡ root
+abbrev pub NonAlias : List ValueData → Value → Type 0
+NonAlias vs v = kind (at vs v) ≡ Root
 
 -- v leads to r through n aliases: a live alias leads to what its original leads to, through itself and each alias on
 -- the way; every other unretired value leads to itself
 pub data Leads (vs : List ValueData) : Value → Value → ℕ → Type 0 where
-  here : {v : Value} → Root vs v → Leads vs v v zero
+  here : {v : Value} → NonAlias vs v → Leads vs v v zero
   step : {v original r : Value} {n : ℕ} → LiveAlias vs v original → Leads vs original r n → Leads vs v r (suc n)
 
 abbrev pub LeadsNowhere : List ValueData → Value → Type 0
@@ -53,9 +50,9 @@ LeadsNowhere vs v = (r : Value) (n : ℕ) → Leads vs v r n → ⊥
 
 -- where a walk goes from v
 abbrev pub onward : Kind → (Value → Option Value) → Value → Option Value
-onward root walk-on v = Some v
-onward (link original) walk-on v = walk-on original
-onward gone walk-on v = None
+onward Root walk-on v = Some v
+onward (Link original) walk-on v = walk-on original
+onward Gone walk-on v = None
 
 -- a walk that looks at no more than n definitions
 abbrev pub walk : ℕ → List ValueData → Value → Option Value
@@ -68,9 +65,9 @@ leads-to vs v = walk (length vs) vs v
 
 -- how many live aliases there are
 abbrev pub weight : Kind → ℕ
-weight root = 0
-weight (link original) = 1
-weight gone = 0
+weight Root = 0
+weight (Link original) = 1
+weight Gone = 0
 
 abbrev pub live-aliases : List ValueData → ℕ
 live-aliases [] = 0
@@ -86,9 +83,9 @@ WalkFinds = (vs : List ValueData) (v r : Value) → (leads-to vs v ≡ Some r) �
 abbrev pub WalkFails : Type 0
 WalkFails = (vs : List ValueData) (v : Value) → (leads-to vs v ≡ None) ↔ LeadsNowhere vs v
 
--- a value leads to one value only, by one way, and that one is a root;
+-- a value leads to one value only, by one way, and that one is no alias;
 abbrev pub OneEnd : Type 0
-OneEnd = (vs : List ValueData) (v r s : Value) (m n : ℕ) → Leads vs v r m → Leads vs v s n → (r ≡ s) × (m ≡ n) × Root vs r
+OneEnd = (vs : List ValueData) (v r s : Value) (m n : ℕ) → Leads vs v r m → Leads vs v s n → (r ≡ s) × (m ≡ n) × NonAlias vs r
 
 -- a way passes no more aliases than are live, which are fewer than the values.
 abbrev pub ShortWays : Type 0

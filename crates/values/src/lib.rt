@@ -1,2 +1,3 @@
+pub mod kind;
 pub mod laws;
 pub mod resolve;
