@@ -1,4 +1,4 @@
-use Prim.Native.Nat.{_-_, _<_, _^_}
+use Prim.Native.Nat.{_-_}
 use mathlib.Core.Path.{_≡_}
 use lib.ListN.{length}
 use Rattle.values.specs.Defs.{definitions}
@@ -7,4 +7,5 @@ use Rattle.values.proofs.resolve.resolve.Given as given
 
 -- the looks that are left find from here what all of them find from the start
 abbrev pub Inv-loop : given.InvT-loop
-Inv-loop l = (l .at .0 < 2 ^ 32) × (walk (length (l .defs) - l .counter) (definitions (l .defs)) (l .at) ≡ leads-to (definitions (l .defs)) (l .entry .at))
+Inv-loop l =
+    walk (length (l .defs) - l .counter) (definitions (l .defs)) (l .at) ≡ leads-to (definitions (l .defs)) (l .entry .at)

@@ -1,0 +1,4 @@
+pub mod aliases;
+pub mod laws;
+pub mod pairs;
+pub mod renaming;
