@@ -6,15 +6,25 @@ use mathlib.Core.Logic.{_≢_}
 use Prim.Native.Nat.{ℕ}
 use lib.Dec.{eqb}
 use Rattle.std.specs.Options.{valueOr}
+use Rattle.std.specs.declared.option.Option.{Option}
+use Rattle.std.specs.declared.option.Option.the-variants.{Some, None}
 use Rattle.ir.specs.declared.entities.Value.{Value}
 use Rattle.ir.specs.declared.value_data.ValueData.{ValueData}
 use Rattle.values.specs.Leads.{Leads, LeadsNowhere, leads-to}
 use Rattle.renaming.specs.declared.pairs.Pair.{Pair}
 
+-- the first pair for v
+abbrev pub first-for : List Pair → Value → Option Pair
+first-for [] v = None
+first-for (p ∷ ps) v = cond (eqb (p .from .0) (v .0)) (Some p) (first-for ps v)
+
+abbrev pub new-name : Option Pair → Value → Value
+new-name None v = v
+new-name (Some p) v = p .to
+
 -- by the first pair that fits; other values stay
 abbrev pub first-fit : List Pair → Value → Value
-first-fit [] v = v
-first-fit (p ∷ ps) v = cond (eqb (p .from .0) (v .0)) (p .to) (first-fit ps v)
+first-fit ps v = new-name (first-for ps v) v
 
 -- what a value leads to, or the value where it leads nowhere
 abbrev pub end-of : List ValueData → Value → Value

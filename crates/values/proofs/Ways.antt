@@ -30,7 +30,7 @@ of-walk vs zero v r h = let z : _≡_ {A = ℕ} 0 1 = cc in absurd (omega arith)
 of-walk vs (suc k) v r h = by (kind (at vs v)) refl (of-walk vs k) h
   where
     by : (c : Kind) → kind (at vs v) ≡ c → ((o q : Value) → walk k vs o ≡ Some q → (n : ℕ) × Leads vs o q n) →
-      onward c (walk k vs) v ≡ Some r → (n : ℕ) × Leads vs v r n
+        onward c (walk k vs) v ≡ Some r → (n : ℕ) × Leads vs v r n
     by Root e f q = let p : v ≡ r = cc in subst (λ (x : Value). (n : ℕ) × Leads vs v x n) p (0, here e)
     by (Link o) e f q = let t = f o r q in (suc (t .0), step e (t .1))
     by Gone e f q = let z : _≡_ {A = ℕ} 0 1 = cc in absurd (omega arith)
@@ -105,7 +105,7 @@ room (d ∷ ds) zero e = omega (arith, ap weight e, live-aliases-le ds)
 room (d ∷ ds) (suc i) e = omega (arith, weight-le (kind d), room ds i e)
 
 live-aliases-set : (vs : List ValueData) (i : ℕ) (d : ValueData) → i < length vs →
-  live-aliases (set vs i d) + weight (kind (getD vs i retired-mark)) ≡ live-aliases vs + weight (kind d)
+    live-aliases (set vs i d) + weight (kind (getD vs i retired-mark)) ≡ live-aliases vs + weight (kind d)
 live-aliases-set [] i d h = absurd (not-suc-le-zero h)
 live-aliases-set (e ∷ es) zero d h = omega arith
 live-aliases-set (e ∷ es) (suc i) d h = let l : i < length es = omega arith in omega (arith, live-aliases-set es i d l)

@@ -13,4 +13,5 @@ returns c =
       last-place = refl;
       wide-place = refl;
       exception = refl;
-      wide-payload = refl }
+      wide-payload = refl;
+    }
