@@ -1,10 +1,10 @@
 use crate::entities::Block;
-use crate::entities::BlockPartialEq;
 use crate::entities::Inst;
-use crate::entities::InstPartialEq;
 use crate::entities::Type;
-use crate::entities::TypePartialEq;
 use crate::entities::Value;
+use crate::entities::BlockPartialEq;
+use crate::entities::InstPartialEq;
+use crate::entities::TypePartialEq;
 use crate::entities::ValuePartialEq;
 
 // What a value is.

@@ -13,5 +13,4 @@ returns c =
       last-place = refl;
       wide-place = refl;
       exception = refl;
-      wide-payload = refl;
-    }
+      wide-payload = refl }
