@@ -35,6 +35,9 @@ packed (Alias ty original) = beside ty (fields 2 ty 0 (original .0))
 packed (Union ty x y) = beside ty (fields 3 ty (x .0) (y .0))
 
 -- a place in a list has 16 bits
+abbrev pub place : ℕ → Result ℕ PackFault
+place x = cond (ltb x 65536) (Ok x) (Err (Wide x))
+
 abbrev pub placed : ℕ → ValueData → Result ValueData PackFault
 placed x d = cond (ltb x 65536) (Ok d) (Err (Wide x))
 
