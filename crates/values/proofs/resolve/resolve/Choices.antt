@@ -8,5 +8,5 @@ use Rattle.values.proofs.resolve.resolve.Given as given
 -- the looks that are left find from here what all of them find from the start
 abbrev pub Inv-loop : given.InvT-loop
 Inv-loop l =
-    walk (length (definitions (l .defs)) - l .counter) (definitions (l .defs)) (l .at)
-    ≡ leads-to (definitions (l .defs)) (l .entry .at)
+    walk (length (definitions (l .defs)) - l .counter) (definitions (l .defs)) (l .place)
+    ≡ leads-to (definitions (l .defs)) (l .entry .place)
