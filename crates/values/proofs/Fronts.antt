@@ -31,36 +31,37 @@ unfolding listed
 listed-part n ps = let z : n - 0 ≡ n = omega arith in ap (λ (m : ℕ). definitions (take m ps)) z
 
 listed-within : (n : ℕ) (ps : List ValueDataPacked) (i : ℕ) (p : ValueDataPacked) → i < n →
-  listed n (set ps i p) ≡ set (listed n ps) i (definition p)
+    listed n (set ps i p) ≡ set (listed n ps) i (definition p)
 unfolding listed
 listed-within n ps i p h = ap definitions (take-set-lt n ps i p h) ∙ map-set definition (take n ps) i p
 
 listed-behind : (ps : List ValueDataPacked) (i : ℕ) (p : ValueDataPacked) → i < length ps →
-  listed (i + 1) (set ps i p) ≡ listed i ps ++ definition p ∷ []
+    listed (i + 1) (set ps i p) ≡ listed i ps ++ definition p ∷ []
 unfolding listed
 listed-behind ps i p h = ap definitions (take-more-set ps i p h) ∙ map-append definition (take i ps) (p ∷ [])
 
 -- at the place there is the new entry, elsewhere what was there
 canonical-at : (ps : List ValueDataPacked) (i j : ℕ) (p : ValueDataPacked) → i < length ps → Canonical p →
-  (j ≢ i → Canonical (getD ps j retired-fields)) → Canonical (getD (set ps i p) j retired-fields)
+    (j ≢ i → Canonical (getD ps j retired-fields)) → Canonical (getD (set ps i p) j retired-fields)
 canonical-at ps i j p h one old =
     elim (cases-eq j i) [
-      inl e ↦ subst (λ (m : ℕ). Canonical (getD (set ps i p) m retired-fields)) (sym e)
-        (subst Canonical (sym (getD-set-same ps i p retired-fields h)) one)
-    | inr ne ↦ subst Canonical (sym (getD-set-other ps i j p retired-fields ne)) (old ne) ]
+      | inl e ↦ subst (λ (m : ℕ). Canonical (getD (set ps i p) m retired-fields)) (sym e)
+          (subst Canonical (sym (getD-set-same ps i p retired-fields h)) one)
+      | inr ne ↦ subst Canonical (sym (getD-set-other ps i j p retired-fields ne)) (old ne)
+    ]
 
 canonicals-within : (n : ℕ) (ps : List ValueDataPacked) (i : ℕ) (p : ValueDataPacked) → i < length ps → Canonical p →
-  Canonicals n ps → Canonicals n (set ps i p)
+    Canonicals n ps → Canonicals n (set ps i p)
 unfolding Canonicals
 canonicals-within n ps i p h one all j k = canonical-at ps i j p h one (λ _. all j k)
 
 canonicals-behind : (ps : List ValueDataPacked) (i : ℕ) (p : ValueDataPacked) → i < length ps → Canonical p →
-  Canonicals i ps → Canonicals (i + 1) (set ps i p)
+    Canonicals i ps → Canonicals (i + 1) (set ps i p)
 unfolding Canonicals
 canonicals-behind ps i p h one all j k = canonical-at ps i j p h one (λ ne. all j (omega arith))
 
 pub puts : (ps : List ValueDataPacked) (i : ℕ) (p : ValueDataPacked) (d : ValueData) → i < length ps →
-  p ≡ stored d → definition p ≡ d → Put ps (set ps i p) i d
+    p ≡ stored d → definition p ≡ d → Put ps (set ps i p) i d
 puts ps i p d h says back =
     let one : Canonical p = ap stored back ∙ sym says in
     record {
@@ -69,4 +70,5 @@ puts ps i p d h says back =
       behind = listed-behind ps i p h ∙ ap (λ (x : ValueData). listed i ps ++ x ∷ []) back;
       long = λ n k. listed-long n (set ps i p) (simp length-set k);
       canonical-within = λ n _. canonicals-within n ps i p h one;
-      canonical-behind = canonicals-behind ps i p h one }
+      canonical-behind = canonicals-behind ps i p h one;
+    }

@@ -11,7 +11,6 @@ use Rattle.ir.specs.declared.value_data.ValueData.{ValueData}
 use Rattle.ir.specs.declared.value_data.ValueDataPacked.{ValueDataPacked}
 use Rattle.ir.specs.Packing.{retired-mark}
 use Rattle.values.specs.declared.kind.Kind.{Kind}
-use Rattle.values.specs.declared.kind.Kind.the-variants.{Gone}
 use Rattle.values.specs.Defs.{definition, definitions}
 use Rattle.values.specs.Leads.{kind, at, onward, walk, leads-to}
 
@@ -26,28 +25,15 @@ at-known ps v d h = getD-map definition ps (v .0) d retired-mark h
 pub at-unknown : (ps : List ValueDataPacked) (v : Value) → length ps ≤ v .0 → at (definitions ps) v ≡ retired-mark
 at-unknown ps v h = getD-past (definitions ps) (v .0) retired-mark (simp length-map h)
 
--- one look, at a definition of the kind c
-turn : (vs : List ValueData) (v a : Value) (k : ℕ) (c : Kind) → k < length vs →
-    walk (length vs - k) vs a ≡ leads-to vs v → c ≡ kind (at vs a) →
-    onward c (walk (length vs - (k + 1)) vs) a ≡ leads-to vs v
-turn vs v a k c h i e =
-    let p : suc (length vs - (k + 1)) ≡ length vs - k = omega arith in
-    ap (λ (x : Kind). onward x (walk (length vs - (k + 1)) vs) a) e ∙ ap (λ (n : ℕ). walk n vs a) p ∙ i
-
--- the same, at the entry that the code read
-pub turn-known : (ps : List ValueDataPacked) (v a : Value) (k : ℕ) (c : Kind) (d : ValueDataPacked) → k < length ps →
-    walk (length (definitions ps) - k) (definitions ps) a ≡ leads-to (definitions ps) v → a .0 < length ps →
-    c ≡ kind (definition (getD ps (a .0) d)) →
+-- one look, at an entry p of the kind c
+pub turn : (ps : List ValueDataPacked) (v a : Value) (k : ℕ) (c : Kind) (p : ValueDataPacked) → k < length ps →
+    walk (length (definitions ps) - k) (definitions ps) a ≡ leads-to (definitions ps) v →
+    definition p ≡ at (definitions ps) a → c ≡ kind (definition p) →
     onward c (walk (length (definitions ps) - (k + 1)) (definitions ps)) a ≡ leads-to (definitions ps) v
-turn-known ps v a k c d h i l e =
-    turn (definitions ps) v a k c (omega (arith, length-definitions ps)) i (e ∙ sym (ap kind (at-known ps a d l)))
-
--- an unknown value leads nowhere
-pub turn-unknown : (ps : List ValueDataPacked) (v a : Value) (k : ℕ) → k < length ps →
-    walk (length (definitions ps) - k) (definitions ps) a ≡ leads-to (definitions ps) v → length ps ≤ a .0 →
-    None ≡ leads-to (definitions ps) v
-turn-unknown ps v a k h i l =
-    turn (definitions ps) v a k Gone (omega (arith, length-definitions ps)) i (sym (ap kind (at-unknown ps a l)))
+turn ps v a k c p h i r e =
+    let vs = definitions ps in
+    let s : suc (length vs - (k + 1)) ≡ length vs - k = omega (arith, length-definitions ps) in
+    ap (λ (x : Kind). onward x (walk (length vs - (k + 1)) vs) a) (e ∙ ap kind r) ∙ ap (λ (n : ℕ). walk n vs a) s ∙ i
 
 -- no look is left
 pub spent : (ps : List ValueDataPacked) (v a : Value) (k : ℕ) → length ps ≤ k →

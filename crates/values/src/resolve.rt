@@ -19,14 +19,21 @@ fn unpacked(def: ValueDataPacked) -> ValueData
     }
 }
 
+// The entry of v.
+fn entry(defs: &[ValueDataPacked], v: Value) -> ValueDataPacked
+    ensures { λ r. ⌜ definition r ≡ at (definitions (now (defs .entry))) v ⌝ }
+{
+    if v.0 as usize >= defs.len() {
+        return ValueDataPacked::RETIRED;
+    }
+    defs[v.0 as usize]
+}
+
 // The definition of v.
 pub fn read(defs: &[ValueDataPacked], v: Value) -> ValueData
     ensures { λ r. ⌜ r ≡ at (definitions (now (defs .entry))) v ⌝ }
 {
-    if v.0 as usize >= defs.len() {
-        return ValueData::RETIRED;
-    }
-    unpacked(defs[v.0 as usize])
+    unpacked(entry(defs, v))
 }
 
 // What v leads to, or nothing where it leads nowhere. A way is shorter than its table, so that a longer walk runs in a
@@ -36,10 +43,7 @@ pub fn resolve(defs: &[ValueDataPacked], v: Value) -> Option<Value>
 {
     let mut place = v;
     for _ in 0..defs.len() {
-        if place.0 as usize >= defs.len() {
-            return None;
-        }
-        match kind_of(defs[place.0 as usize]) {
+        match kind_of(entry(defs, place)) {
             Kind::Root => return Some(place),
             Kind::Link(original) => place = original,
             Kind::Gone => return None,

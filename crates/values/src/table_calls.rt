@@ -38,6 +38,13 @@ fn put(defs: &mut [ValueDataPacked], place: usize, data: ValueData)
     defs[place] = fields(data);
 }
 
+// How many values there can be.
+fn room(cells: usize, most: usize) -> u32
+    ensures { λ r. ⌜ r ≡ min (min cells most) 1073741824 ⌝ }
+{
+    cells.min(most).min(1 << 30) as u32
+}
+
 impl<'a> ValueTable<'a> {
     // No value yet, and room for as many as the memory holds, at most `most` and 2^30.
     pub fn new(defs: &'a mut [ValueDataPacked], most: usize) -> ValueTable<'a>
@@ -46,8 +53,12 @@ impl<'a> ValueTable<'a> {
         ensures limit { λ r. ⌜ r .limit ≡ min (min (length (now (defs .entry))) most) 1073741824 ⌝ }
         ensures memory { λ r. ⌜ now (r .defs) ≡ now (defs .entry) ⌝ }
     {
-        let limit = defs.len().min(most).min(1 << 30) as u32;
-        ValueTable { defs, count: 0, limit }
+        let limit = room(defs.len(), most);
+        ValueTable {
+            defs,
+            count: 0,
+            limit,
+        }
     }
 
     // Whether a value exists.

@@ -14,7 +14,9 @@ returns c =
         limited = search needs;
         few = search needs;
         sized = ap length (listed-none (c .args .defs .now));
-        canonical = canonicals-none (c .args .defs .now) };
+        canonical = canonicals-none (c .args .defs .now);
+      };
       holds = listed-none (c .args .defs .now);
       limit = search needs;
-      memory = refl }
+      memory = refl;
+    }
