@@ -4,7 +4,7 @@ use mathlib.Core.List.{List, [], _∷_}
 use mathlib.Core.Bool.{cond}
 use mathlib.Core.Logic.{_≢_, _↔_}
 use Prim.Native.Nat.{ℕ, zero, suc, _+_, _<_, _≤_}
-use lib.ListN.{length, getD}
+use lib.ListN.{length, getD, set}
 use Rattle.std.specs.declared.option.Option.{Option}
 use Rattle.std.specs.declared.option.Option.the-variants.{Some, None}
 use Rattle.ir.specs.declared.entities.Value.{Value}
@@ -91,3 +91,9 @@ OneEnd = (vs : List ValueData) (v r s : Value) (m n : ℕ) → Leads vs v r m �
 abbrev pub ShortWays : Type 0
 ShortWays =
     (vs : List ValueData) (v r : Value) (n : ℕ) → Leads vs v r n → (n ≤ live-aliases vs) × (n < length vs)
+
+-- Making a live alias one of the value that it leads to, whatever its type, changes what no value leads to.
+abbrev pub Redirects : Type 0
+Redirects =
+    (vs : List ValueData) (v r : Value) (n : ℕ) (d : ValueData) → Leads vs v r (suc n) → kind d ≡ Link r →
+    (w : Value) → leads-to (set vs (v .0) d) w ≡ leads-to vs w

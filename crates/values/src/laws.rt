@@ -1,5 +1,5 @@
 // Theorems about what values lead to, on every table of definitions, rings of aliases included.
-ghost use Rattle.values.specs.Leads.{WalkFinds, WalkFails, OneEnd, ShortWays};
+ghost use Rattle.values.specs.Leads.{WalkFinds, WalkFails, OneEnd, ShortWays, Redirects};
 
 // The bounded walk and the relation "leads to" agree, and a way is unique and shorter than its table.
 pub fn leads_laws() -> u8
@@ -7,6 +7,13 @@ pub fn leads_laws() -> u8
     ensures fails { λ _. ⌜ WalkFails ⌝ }
     ensures one { λ _. ⌜ OneEnd ⌝ }
     ensures short { λ _. ⌜ ShortWays ⌝ }
+{
+    0
+}
+
+// An alias may be redirected to the end of its way.
+pub fn redirect_law() -> u8
+    ensures { λ _. ⌜ Redirects ⌝ }
 {
     0
 }
