@@ -2,7 +2,7 @@
 use mathlib.Core.Path.{_≡_}
 use mathlib.Core.List.{List, [], _∷_}
 use mathlib.Core.Bool.{cond}
-use mathlib.Core.Logic.{_≢_, _↔_}
+use mathlib.Core.Logic.{_↔_}
 use Prim.Native.Nat.{ℕ, zero, suc, _+_, _<_, _≤_}
 use lib.ListN.{length, getD, set}
 use Rattle.std.specs.declared.option.Option.{Option}
@@ -92,7 +92,7 @@ abbrev pub ShortWays : Type 0
 ShortWays =
     (vs : List ValueData) (v r : Value) (n : ℕ) → Leads vs v r n → (n ≤ live-aliases vs) × (n < length vs)
 
--- Making a live alias one of the value that it leads to, whatever its type, changes what no value leads to.
+-- Redirecting a live alias straight to what it leads to leaves what each value leads to as it was.
 abbrev pub Redirects : Type 0
 Redirects =
     (vs : List ValueData) (v r : Value) (n : ℕ) (d : ValueData) → Leads vs v r (suc n) → kind d ≡ Link r →

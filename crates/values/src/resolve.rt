@@ -1,7 +1,7 @@
 // Reading packed definitions, and following aliases in them. Any memory will do: what does not unpack reads as the
 // retired mark, and so does a value that has no entry.
 ghost use mathlib.Core.Path.{_≡_};
-ghost use Rattle.values.specs.Defs.{definition, definitions};
+ghost use Rattle.values.specs.Defs.{definition, definitions, Narrow};
 ghost use Rattle.values.specs.Leads.{at, leads-to};
 use crate::kind::Kind;
 use crate::kind::kind_of;
@@ -9,9 +9,10 @@ use ir::entities::Value;
 use ir::value_data::ValueData;
 use ir::value_data::ValueDataPacked;
 
-// What an entry unpacks to.
+// What an entry unpacks to. Whatever its bits are, its type fits.
 fn unpacked(def: ValueDataPacked) -> ValueData
-    ensures { λ r. ⌜ r ≡ definition def ⌝ }
+    ensures says { λ r. ⌜ r ≡ definition def ⌝ }
+    ensures narrow { λ r. ⌜ Narrow r ⌝ }
 {
     match def.unpack() {
         Ok(data) => data,
@@ -29,9 +30,10 @@ fn entry(defs: &[ValueDataPacked], v: Value) -> ValueDataPacked
     defs[v.0 as usize]
 }
 
-// The definition of v.
+// The definition of v, which can be packed again.
 pub fn read(defs: &[ValueDataPacked], v: Value) -> ValueData
-    ensures { λ r. ⌜ r ≡ at (definitions (now (defs .entry))) v ⌝ }
+    ensures says { λ r. ⌜ r ≡ at (definitions (now (defs .entry))) v ⌝ }
+    ensures narrow { λ r. ⌜ Narrow r ⌝ }
 {
     unpacked(entry(defs, v))
 }

@@ -89,7 +89,8 @@ impl<'a> ValueTable<'a> {
     // The definition of a value; an unknown one reads as the retired mark.
     pub fn read(&self, v: Value) -> ValueData
         requires { ⌜ SoundValues (now self) ⌝ }
-        ensures { λ r. ⌜ r ≡ at (value-data (now (self .entry))) v ⌝ }
+        ensures says { λ r. ⌜ r ≡ at (value-data (now (self .entry))) v ⌝ }
+        ensures narrow { λ r. ⌜ Narrow r ⌝ }
     {
         read(self.live(), v)
     }
@@ -97,7 +98,8 @@ impl<'a> ValueTable<'a> {
     // The type of a value; an unknown one has none.
     pub fn value_type(&self, v: Value) -> Type
         requires { ⌜ SoundValues (now self) ⌝ }
-        ensures { λ r. ⌜ r ≡ type (at (value-data (now (self .entry))) v) ⌝ }
+        ensures says { λ r. ⌜ r ≡ type (at (value-data (now (self .entry))) v) ⌝ }
+        ensures narrow { λ r. ⌜ r .0 < 16384 ⌝ }
     {
         self.read(v).ty()
     }
