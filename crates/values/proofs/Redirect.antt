@@ -1,16 +1,20 @@
 -- A live alias that is made one of the value that it leads to.
 use mathlib.Core.Path.{_≡_, refl, sym, _∙_, ap, subst}
 use mathlib.Core.List.{List}
+use mathlib.Core.Bool.{true, false, cond, _&&_}
 use mathlib.Core.Logic.{_≢_, _⊎_, inl, inr}
 use Prim.Native.Nat.{ℕ, zero, suc}
 use native.Mathlib.Omega.{arith}
+use lib.Dec.{eqb}
 use lib.ListN.{set}
-use Rattle.std.proofs.shelf.Tests.{cases-eq}
+use Rattle.std.proofs.shelf.Tests.{cases-eq, ne-eqb}
 use Rattle.std.specs.declared.option.Option.{Option}
 use Rattle.std.specs.declared.option.Option.the-variants.{Some, None}
 use Rattle.ir.specs.declared.entities.Value.{Value}
+use Rattle.ir.specs.declared.entities.Type.{«Type» as Ty}
 use Rattle.ir.specs.declared.value_data.ValueData.{ValueData}
-use Rattle.values.specs.declared.kind.Kind.the-variants.{Root, Link}
+use Rattle.ir.specs.declared.value_data.ValueData.the-variants.{Alias}
+use Rattle.values.specs.declared.kind.Kind.the-variants.{Root, Link, Gone}
 use Rattle.values.specs.Leads.{kind, at, NonAlias, LiveAlias, Leads, here, step, leads-to, Redirects}
 use Rattle.values.proofs.Ways.{unique, end, at-same, kind-other, live-alias-exists, leads-some, some-leads, none-nowhere, nowhere-none}
 
@@ -20,6 +24,25 @@ same-or-not v w =
       | inl e ↦ inl (ap (λ (n : ℕ). let u : Value = record { 0 = n } in u) e)
       | inr ne ↦ inr (λ p. ne (ap (λ (u : Value). u .0) p))
     ]
+
+-- a live alias leads where its original leads
+pub alias-leads : (vs : List ValueData) (v o : Value) → LiveAlias vs v o → leads-to vs v ≡ leads-to vs o
+alias-leads vs v o e = by (leads-to vs o) refl
+  where
+    behind : {a r : Value} {n : ℕ} → Leads vs a r n → LiveAlias vs a o → (k : ℕ) × Leads vs o r k
+    behind (here f) g = let z : _≡_ {A = ℕ} 0 1 = cc in absurd (omega arith)
+    behind {r = r} (step {original = p} {n = k} f l) g =
+        let q : p ≡ o = cc in (k, subst (λ (x : Value). Leads vs x r k) q l)
+
+    by : (x : Option Value) → leads-to vs o ≡ x → leads-to vs v ≡ leads-to vs o
+    by (Some r) f = let t = some-leads vs o r f in leads-some (step e (t .1)) ∙ sym f
+    by None f = nowhere-none vs v (λ r n l. let t = behind l e in none-nowhere vs o f r (t .0) (t .1)) ∙ sym f
+
+-- an alias of a number that is not reserved is live
+pub live : (ty : Ty) (r : Value) → r .0 ≢ 0xFFFF_FFFF → kind (Alias ty r) ≡ Link r
+live ty r h =
+    rw (ne-eqb (r .0) 0xFFFF_FFFF h)
+    (elim (eqb (ty .0) 0) as (λ b. cond (b && false) Gone (Link r) ≡ Link r) [ true ↦ refl | false ↦ refl ])
 
 alias-of : {vs : List ValueData} {v r : Value} {n : ℕ} → Leads vs v r (suc n) → (o : Value) × LiveAlias vs v o
 alias-of (step {original = o} e l) = (o, e)
