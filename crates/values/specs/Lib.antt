@@ -1,0 +1,3 @@
+pub mod Defs
+pub mod Leads
+pub mod Tables
