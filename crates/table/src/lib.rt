@@ -1,2 +1,4 @@
+pub mod calls;
+pub mod drive;
 pub mod fault;
 pub mod inst_table;
