@@ -10,11 +10,15 @@ use Rattle.table.proofs.Held.{row-held}
 use Rattle.rows.specs.declared.cell.RowCell.{RowCell}
 use Rattle.rows.specs.declared.store.Rows.{Rows}
 use Rattle.rows.specs.Cells.{at, no-cell, operands-of, row-of}
-use Rattle.rows.specs.Rows.{rows-mean}
+use Rattle.rows.specs.Rows.{rows-mean, Same}
+use Rattle.rows.proofs.Words.{Sound}
 
 module _ (s : Rows) where
   abbrev pub cells : List RowCell
   cells = take (s .count) (s .rows .now)
+
+  pub sound : Sound (s .words .now) cells (s .used) (s .total)
+  sound = record { full = s .full; below = s .below; apart = s .apart; sums = s .sums }
 
   pub length-cells : length cells ≡ s .count
   length-cells = length-take-le (s .count) (s .rows .now) (omega (arith, s .«rows_room», s .counted))
@@ -31,3 +35,13 @@ module _ (s : Rows) where
 
     pub count-at : length (operands (rows-mean s) i) ≡ at (s .rows .now) i .count
     count-at = ap (λ (r : Row). length (r .operands)) row-is ∙ ap (λ (c : RowCell). length (operands-of (s .words .now) c)) (sym cell-is) ∙ s .full i ∙ ap (λ (c : RowCell). c .count) cell-is
+
+pub same-then : (r s t : Rows) → Same r s → Same s t → Same r t
+same-then r s t a b =
+    record {
+      mean = b .mean ∙ a .mean;
+      insts = b .insts ∙ a .insts;
+      limit = b .limit ∙ a .limit;
+      count = b .count ∙ a .count;
+      used = b .used ∙ a .used;
+      total = b .total ∙ a .total }

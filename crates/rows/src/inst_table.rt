@@ -60,4 +60,99 @@ impl<'a> Rows<'a> {
         }
         Ok(Inst(self.count as u32))
     }
+
+    // An operand that lies in the run of words.
+    fn long_operand(&self, i: usize, place: usize) -> Value
+        requires known { ⌜ i < now self .count ⌝ }
+        requires many { ⌜ 3 < getD (now (now self .rows)) i no-cell .count ⌝ }
+        requires within { ⌜ place < getD (now (now self .rows)) i no-cell .count ⌝ }
+        ensures { λ r. ⌜ r ≡ getD (operands-of (now (now (self .entry) .words)) (getD (now (now (self .entry) .rows)) i no-cell)) place no-value ⌝ }
+    {
+        let start = self.rows[i].start as usize;
+        self.words[start + place]
+    }
+
+    fn set_short(&mut self, i: usize, place: usize, value: Value)
+        requires known { ⌜ i < now self .count ⌝ }
+        requires few { ⌜ getD (now (now self .rows)) i no-cell .count ≤ 3 ⌝ }
+        requires within { ⌜ place < getD (now (now self .rows)) i no-cell .count ⌝ }
+        ensures { λ _. ⌜ rows-mean (now (self .exit)) ≡ with-operand (rows-mean (now (self .entry))) i place value ⌝ }
+    {
+        let mut row = self.rows[i];
+        row.short[place] = value;
+        self.rows[i] = row;
+    }
+
+    fn set_long(&mut self, i: usize, place: usize, value: Value)
+        requires known { ⌜ i < now self .count ⌝ }
+        requires many { ⌜ 3 < getD (now (now self .rows)) i no-cell .count ⌝ }
+        requires within { ⌜ place < getD (now (now self .rows)) i no-cell .count ⌝ }
+        ensures { λ _. ⌜ rows-mean (now (self .exit)) ≡ with-operand (rows-mean (now (self .entry))) i place value ⌝ }
+    {
+        let start = self.rows[i].start as usize;
+        self.words[start + place] = value;
+    }
+
+    // Adds an instruction whose n operands lie in its row.
+    fn push_short(&mut self, opcode: Opcode, n: usize, short: [Value; 3])
+        requires inst { ⌜ now self .count < now self .insts ⌝ }
+        requires few { ⌜ n ≤ 3 ⌝ }
+        requires whole { ⌜ length (take n short) ≡ n ⌝ }
+        requires words { ⌜ now self .total + n ≤ now self .limit ⌝ }
+        ensures { λ _. ⌜ rows-mean (now (self .exit)) ≡ with-row (rows-mean (now (self .entry))) (record { opcode = opcode; operands = take n short }) ⌝ }
+    {
+        let count = self.count;
+        self.rows[count] = RowCell { opcode, count: n as u32, start: 0, short };
+        self.count = count + 1;
+        self.total += n;
+    }
+
+    // Adds an instruction whose operands are the n words behind the used ones.
+    fn push_long(&mut self, opcode: Opcode, n: usize)
+        requires inst { ⌜ now self .count < now self .insts ⌝ }
+        requires many { ⌜ 3 < n ⌝ }
+        requires words { ⌜ now self .total + n ≤ now self .limit ⌝ }
+        ensures { λ _. ⌜ rows-mean (now (self .exit)) ≡ with-row (rows-mean (now (self .entry))) (record { opcode = opcode; operands = take n (drop (now (self .entry) .used) (now (now (self .entry) .words))) }) ⌝ }
+    {
+        let count = self.count;
+        let used = self.used;
+        self.rows[count] = RowCell { opcode, count: n as u32, start: used as u32, short: [Value(0); 3] };
+        self.count = count + 1;
+        self.used = used + n;
+        self.total += n;
+    }
+
+    // Writes the k-th word behind the used ones.
+    fn put(&mut self, k: usize, value: Value)
+        requires { ⌜ now self .total + k < now self .limit ⌝ }
+        ensures word { λ _. ⌜ now (now (self .exit) .words) ≡ set (now (now (self .entry) .words)) (now (self .entry) .used + k) value ⌝ }
+        ensures same { λ _. ⌜ Same (now (self .entry)) (now (self .exit)) ⌝ }
+    {
+        let used = self.used;
+        self.words[used + k] = value;
+    }
+
+    // Writes operands behind the used words.
+    fn write(&mut self, operands: &[Value])
+        requires { ⌜ now self .total + length (now operands) ≤ now self .limit ⌝ }
+        ensures words { λ _. ⌜ take (length (now (operands .entry))) (drop (now (self .entry) .used) (now (now (self .exit) .words))) ≡ now (operands .entry) ⌝ }
+        ensures same { λ _. ⌜ Same (now (self .entry)) (now (self .exit)) ⌝ }
+    {
+        for k in 0..operands.len() {
+            self.put(k, operands[k]);
+        }
+    }
+
+    // Writes a copy of n used words behind them.
+    fn repeat(&mut self, start: usize, n: usize)
+        requires source { ⌜ start + n ≤ now self .used ⌝ }
+        requires words { ⌜ now self .total + n ≤ now self .limit ⌝ }
+        ensures words { λ _. ⌜ take n (drop (now (self .entry) .used) (now (now (self .exit) .words))) ≡ take n (drop start (now (now (self .entry) .words))) ⌝ }
+        ensures same { λ _. ⌜ Same (now (self .entry)) (now (self .exit)) ⌝ }
+    {
+        for k in 0..n {
+            let word = self.words[start + k];
+            self.put(k, word);
+        }
+    }
 }
