@@ -68,7 +68,8 @@ impl<'a> Rows<'a> {
         requires within { ⌜ place < getD (now (now self .rows)) i no-cell .count ⌝ }
         ensures { λ r. ⌜ r ≡ getD (operands-of (now (now (self .entry) .words)) (getD (now (now (self .entry) .rows)) i no-cell)) place no-value ⌝ }
     {
-        let start = self.rows[i].start as usize;
+        let row = self.rows[i];
+        let start = row.start as usize;
         self.words[start + place]
     }
 
@@ -89,7 +90,8 @@ impl<'a> Rows<'a> {
         requires within { ⌜ place < getD (now (now self .rows)) i no-cell .count ⌝ }
         ensures { λ _. ⌜ rows-mean (now (self .exit)) ≡ with-operand (rows-mean (now (self .entry))) i place value ⌝ }
     {
-        let start = self.rows[i].start as usize;
+        let row = self.rows[i];
+        let start = row.start as usize;
         self.words[start + place] = value;
     }
 

@@ -23,7 +23,8 @@ loop-k-again c =
     let s = c .loop-k .self in
     let i = c .loop-k .inv in
     let k = c .loop-k .k in
-    (more-words (s .words .now) _ (r .used) k _ (c .args .operands .now) (c .put .ensures .word ∙ ap (λ (n : ℕ). set (s .words .now) (n + k) _) (i .1 .used))
+    let v : Value = getD (c .args .operands .now) k no-value in
+    (more-words (s .words .now) _ (r .used) k v (c .args .operands .now) (c .put .ensures .word ∙ ap (λ (n : ℕ). set (s .words .now) (n + k) v) (i .1 .used))
       (omega (arith, s .«words_room», c .pre, i .1 .total, i .1 .limit, r .«used_some»)) (i .0) (omega arith) refl,
       same-then _ _ _ (i .1) (c .put .ensures .same))
 
