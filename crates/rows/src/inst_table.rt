@@ -158,3 +158,82 @@ impl<'a> Rows<'a> {
         }
     }
 }
+
+pub impl<'a> InstTable for Rows<'a> as RowsTable {
+    ghost meaning = { rows-mean };
+
+    fn count(&self) -> u32 {
+        self.count as u32
+    }
+
+    fn inst_limit(&self) -> u32 {
+        self.insts as u32
+    }
+
+    fn operand_limit(&self) -> u32 {
+        self.limit as u32
+    }
+
+    fn operand_total(&self) -> u32 {
+        self.total as u32
+    }
+
+    fn opcode(&self, inst: Inst) -> Result<Opcode, TableFault> {
+        let row = self.cell(inst)?;
+        Ok(row.opcode)
+    }
+
+    fn operand_count(&self, inst: Inst) -> Result<u32, TableFault> {
+        let row = self.cell(inst)?;
+        Ok(row.count)
+    }
+
+    fn operand(&self, inst: Inst, place: u32) -> Result<Value, TableFault> {
+        let row = self.cell(inst)?;
+        if place >= row.count {
+            return Err(TableFault::Unknown(place));
+        }
+        if row.count <= 3 {
+            return Ok(row.short[place as usize]);
+        }
+        Ok(self.long_operand(inst.0 as usize, place as usize))
+    }
+
+    fn set_operand(&mut self, inst: Inst, place: u32, value: Value) -> Result<(), TableFault> {
+        let row = self.cell(inst)?;
+        if place >= row.count {
+            return Err(TableFault::Unknown(place));
+        }
+        if row.count <= 3 {
+            self.set_short(inst.0 as usize, place as usize, value);
+        } else {
+            self.set_long(inst.0 as usize, place as usize, value);
+        }
+        Ok(())
+    }
+
+    fn add(&mut self, opcode: Opcode, operands: &[Value]) -> Result<Inst, TableFault> {
+        let n = operands.len();
+        let inst = self.room(n)?;
+        if n <= 3 {
+            self.push_short(opcode, n, short_of(operands));
+        } else {
+            self.write(operands);
+            self.push_long(opcode, n);
+        }
+        Ok(inst)
+    }
+
+    fn add_copy(&mut self, inst: Inst) -> Result<Inst, TableFault> {
+        let row = self.cell(inst)?;
+        let n = row.count as usize;
+        let copy = self.room(n)?;
+        if n <= 3 {
+            self.push_short(row.opcode, n, row.short);
+        } else {
+            self.repeat(row.start as usize, n);
+            self.push_long(row.opcode, n);
+        }
+        Ok(copy)
+    }
+}
