@@ -1,14 +1,27 @@
 -- What rows mean.
-use mathlib.Core.Path.{_≡_}
+use mathlib.Core.Path.{_≡_, sym, _∙_, subst}
 use mathlib.Core.List.{map}
-use lib.ListN.{take}
+use Prim.Native.Nat.{ℕ, _≤_}
+use native.Mathlib.Nat.{le-trans}
+use lib.ListN.{take, length-map}
+use Rattle.std.proofs.shelf.Lists.{length-take-le}
 use denote.Ref.{now}
-use Rattle.table.specs.Table.{Table}
+use Rattle.table.specs.Table.{Table, Bounded, count}
 use Rattle.rows.specs.declared.store.Rows.{Rows}
 use Rattle.rows.specs.Cells.{row-of}
 
 abbrev pub rows-mean : Rows → Table
 rows-mean s = record { rows = map (row-of (now (s .words))) (take (s .count) (now (s .rows))); insts = s .insts; words = s .limit }
+
+pub rows-bounded : (s : Rows) → Bounded (rows-mean s)
+rows-bounded s =
+    let held : count (rows-mean s) ≡ s .count =
+      length-map (take (s .count) (now (s .rows))) (row-of (now (s .words))) ∙ length-take-le (s .count) (now (s .rows)) (le-trans (s .counted) (s .«rows_room»)) in
+    record {
+      insts-small = s .«insts_small»;
+      words-small = s .«limit_small»;
+      rows-fit = subst (λ (n : ℕ). n ≤ s .insts) (sym held) (s .counted);
+      words-fit = subst (λ (n : ℕ). n ≤ s .limit) (s .sums) (s .«total_some») }
 
 -- nothing but words has changed
 pub record Same (s t : Rows) : Type 0 where

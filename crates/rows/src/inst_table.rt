@@ -4,7 +4,7 @@ ghost use lib.ListN.{length, getD, set, take, drop};
 ghost use Rattle.std.specs.declared.result.Result.the-variants.{Ok, Err};
 ghost use Rattle.table.specs.Table.{empty, row as rowAt, no-value, at-inst, add-answer, with-operand, with-row};
 ghost use Rattle.rows.specs.Cells.{no-cell, operands-of};
-ghost use Rattle.rows.specs.Rows.{rows-mean, Same};
+ghost use Rattle.rows.specs.Rows.{rows-mean, rows-bounded, Same};
 use crate::cell::RowCell;
 use crate::store::Rows;
 use ir::entities::Inst;
@@ -161,6 +161,8 @@ impl<'a> Rows<'a> {
 
 pub impl<'a> InstTable for Rows<'a> as RowsTable {
     ghost meaning = { rows-mean };
+
+    ghost bounded = { rows-bounded };
 
     fn count(&self) -> u32 {
         self.count as u32

@@ -11,7 +11,8 @@ use ir::entities::Value;
 pub trait InstTable {
     ghost meaning: { Self → Table };
 
-    law bounded: { (t : Self) → Bounded (meaning t) };
+    // Limits are at most 2^30, and neither is passed.
+    ghost bounded: { (t : Self) → Bounded (meaning t) };
 
     fn count(&self) -> u32
         ensures { λ r. ⌜ r ≡ rowCount (meaning (now (self .entry))) ⌝ };

@@ -2,3 +2,4 @@ pub mod calls;
 pub mod drive;
 pub mod fault;
 pub mod inst_table;
+pub mod left;
