@@ -1,0 +1,33 @@
+use mathlib.Core.Path.{_≡_, sym, ap, _∙_}
+use Prim.Native.Nat.{ℕ, _-_}
+use native.Mathlib.Omega.{arith}
+use lib.ListN.{length, take, drop, length-take, length-drop}
+use Rattle.std.specs.declared.result.Result.the-variants.{Ok}
+use Rattle.rows.specs.declared.cell.RowCell.{RowCell}
+use Rattle.rows.specs.Cells.{at}
+use Rattle.rows.proofs.Words.{short-ops, long-ops}
+use Rattle.rows.proofs.Parts.{past, here, whole}
+use Rattle.rows.proofs.reader.RowsReader.operands.Needs as need
+
+pub returns-then-i-self : need.returns-then-i-self
+returns-then-i-self c = sym (past (c .args .self .now) (c .args .inst) (c .if-i-self .taken))
+
+pub returns-then-n-le3 : need.returns-then-n-le3
+returns-then-n-le3 c =
+    let s = c .args .self .now in
+    let x : RowCell = at (s .rows .now) (c .args .inst .0) in
+    let z : x .count - 0 ≡ x .count = omega arith in
+    ap Ok (ap (λ (n : ℕ). take n (x .short)) z ∙ sym (short-ops (s .words .now) x (c .if-n-le3 .taken))) ∙ sym (here s (c .args .inst) (c .if-i-self .left))
+
+pub part-requires : need.part-requires
+part-requires c κs =
+    let s = c .args .self .now in
+    let x : RowCell = at (s .rows .now) (c .args .inst .0) in
+    let e = sym (ap length (long-ops (s .words .now) x (c .if-n-le3 .left))) ∙ whole s (c .args .inst) (c .if-i-self .left) in
+    omega (arith, e, length-take (x .count) (drop (x .start) (s .words .now)), length-drop (x .start) (s .words .now), c .if-n-le3 .left)
+
+pub returns : need.returns
+returns c =
+    let s = c .args .self .now in
+    let x : RowCell = at (s .rows .now) (c .args .inst .0) in
+    ap Ok (c .part .ensures ∙ sym (long-ops (s .words .now) x (c .if-n-le3 .left))) ∙ sym (here s (c .args .inst) (c .if-i-self .left))
