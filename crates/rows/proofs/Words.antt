@@ -9,7 +9,7 @@ use Rattle.std.proofs.shelf.Lists.{getD-take, getD-past, getD-push, getD-set-sa
 use Rattle.std.proofs.shelf.Tests.{le-leb, lt-leb, cond-true, cond-false, cases-eq, cases-lt, cases-order}
 use Rattle.ir.specs.declared.entities.Value.{Value}
 use Rattle.table.specs.Table.{Row, Table, no-value, total, with-operand, with-row}
-use Rattle.table.proofs.Held.{held, take-set, total-push, total-with, same-held, set-held, set-cell-held, push-held}
+use Rattle.table.proofs.Held.{held, take-set, at-end, set-cases, push-cases, total-push, total-with, same-held, set-held, set-cell-held, push-held}
 use Rattle.rows.specs.declared.cell.RowCell.{RowCell}
 use Rattle.rows.specs.Cells.{at, no-cell, operands-of, row-of, Full, Below, Before, Apart}
 
@@ -35,12 +35,6 @@ apart-alike : (cs ds : List RowCell) → Alike cs ds → Apart cs → Apart ds
 apart-alike cs ds a b p =
     let q : Before cs = record { one = p .one; two = p .two; less = p .less; one-long = omega (arith, p .one-long, a (p .one) .0); two-long = omega (arith, p .two-long, a (p .two) .0) } in
     omega (arith, b q, a (p .one) .0, a (p .one) .1, a (p .two) .1)
-
--- what holds of the new cell and of the others holds after a set
-set-cases : (P : RowCell → Type 0) (cs : List RowCell) (i : ℕ) (c : RowCell) → P c → ((j : ℕ) → P (at cs j)) → i < length cs → (j : ℕ) → P (at (set cs i c) j)
-set-cases P cs i c new old h j = elim (cases-eq j i) [
-    inl p ↦ subst P (sym (ap (at (set cs i c)) p ∙ getD-set-same cs i c no-cell h)) new
-  | inr ne ↦ subst P (sym (getD-set-other cs i j c no-cell ne)) (old j) ]
 
 alike-set : (cs : List RowCell) (i : ℕ) (c : RowCell) → c .count ≡ at cs i .count → c .start ≡ at cs i .start → i < length cs → Alike cs (set cs i c)
 alike-set cs i c e f h j = elim (cases-eq j i) [
@@ -125,7 +119,7 @@ module _ (insts words : ℕ) (ws : List Value) (rs : List RowCell) (n i k : ℕ)
     let al : Alike cs (set cs i set-short) = alike-set cs i set-short (ap (λ (x : RowCell). x .count) (sym cell)) (ap (λ (x : RowCell). x .start) (sym cell)) within in
     let f : length (operands-of ws set-short) ≡ c .count = ap (λ (r : Row). length (r .operands)) (short-row s) ∙ length-set (operands-of ws (at cs i)) k v ∙ ap (λ (x : RowCell). length (operands-of ws x)) cell ∙ whole in
     let T : Sound ws (set cs i set-short) used all = record {
-      full = set-cases (λ x. length (operands-of ws x) ≡ x .count) cs i set-short f (S .full) within;
+      full = set-cases no-cell (λ x. length (operands-of ws x) ≡ x .count) cs i set-short f (S .full) within;
       below = λ m l. omega (arith, al m .0, al m .1, S .below m (omega (arith, al m .0)));
       apart = apart-alike cs (set cs i set-short) al (S .apart);
       sums = S .sums ∙ sym (total-with (mean ws cs) i k v (simp length-map within)) ∙ ap (λ (t : Table). total (t .rows)) (sym (set-cell-held no-cell row-of insts words ws cs i k v set-short within (short-row s))) } in
@@ -178,24 +172,12 @@ module _ (insts words : ℕ) (ws : List Value) (cs : List RowCell) (used all p :
     record { full = full-words ws cs p v (S .full); below = S .below; apart = S .apart; sums = S .sums ∙ ap (λ (t : Table). total (t .rows)) (sym past-mean) }
 
 -- one cell more
-at-end : (cs : List RowCell) (c : RowCell) (j : ℕ) → (j < length cs × (at (cs ++ c ∷ []) j ≡ at cs j)) ⊎ ((j ≡ length cs × (at (cs ++ c ∷ []) j ≡ c)) ⊎ (at (cs ++ c ∷ []) j ≡ no-cell))
-at-end cs c j = elim (cases-order j (length cs)) [
-    inl p ↦ inr (inl (p, getD-push cs c no-cell j (sym p)))
-  | inr w ↦ elim w [
-      inl h ↦ inl (h, getD-append-left cs (c ∷ []) no-cell j h)
-    | inr h ↦ inr (inr (getD-past (cs ++ c ∷ []) j no-cell (omega (arith, length-push cs c)))) ] ]
-
-push-cases : (P : RowCell → Type 0) (cs : List RowCell) (c : RowCell) → ((j : ℕ) → P (at cs j)) → P c → P no-cell → (j : ℕ) → P (at (cs ++ c ∷ []) j)
-push-cases P cs c old new none j = elim (at-end cs c j) [
-    inl h ↦ subst P (sym (h .1)) (old j)
-  | inr w ↦ elim w [ inl h ↦ subst P (sym (h .1)) new | inr h ↦ subst P (sym h) none ] ]
-
 apart-push : (cs : List RowCell) (c : RowCell) (used : ℕ) → Below cs used → Apart cs → (3 < c .count → used ≤ c .start) → Apart (cs ++ c ∷ [])
 apart-push cs c used b a e p =
     let one : ℕ = p .one in
     let two : ℕ = p .two in
     let ds : List RowCell = cs ++ c ∷ [] in
-    elim (at-end cs c two) [
+    elim (at-end no-cell cs c two) [
       inl q ↦
         let fst : at ds one ≡ at cs one = getD-append-left cs (c ∷ []) no-cell one (omega (arith, p .less, q .0)) in
         let f1 = ap (λ (x : RowCell). x .count) fst in
@@ -211,7 +193,7 @@ apart-push cs c used b a e p =
           let g1 = ap (λ (x : RowCell). x .count) (q .1) in
           let g2 = ap (λ (x : RowCell). x .start) (q .1) in
           omega (arith, f1, f2, g2, b one (omega (arith, p .one-long, f1)), e (omega (arith, p .two-long, g1)))
-      | inr q ↦ let g1 = ap (λ (x : RowCell). x .count) q in absurd (omega (arith, g1, p .two-long)) ] ]
+      | inr q ↦ let g1 = ap (λ (x : RowCell). x .count) (q .1) in absurd (omega (arith, g1, p .two-long)) ] ]
 
 -- a new cell whose list, if long, lies between the old mark and the new one
 pub push-sound : (ws : List Value) (rs : List RowCell) (n used new all : ℕ) (c : RowCell) → n < length rs → Sound ws (take n rs) used all → length (operands-of ws c) ≡ c .count →
@@ -219,8 +201,8 @@ pub push-sound : (ws : List Value) (rs : List RowCell) (n used new all : ℕ) (c
 push-sound ws rs n used new all c h S o u e =
     let cs : List RowCell = take n rs in
     let T : Sound ws (cs ++ c ∷ []) new (all + c .count) = record {
-      full = push-cases (λ x. length (operands-of ws x) ≡ x .count) cs c (S .full) o refl;
-      below = push-cases (λ x. 3 < x .count → x .start + x .count ≤ new) cs c (λ m l. omega (arith, S .below m l)) (λ l. e l .1) (λ l. absurd (omega arith));
+      full = push-cases no-cell (λ x. length (operands-of ws x) ≡ x .count) cs c (S .full) o refl;
+      below = push-cases no-cell (λ x. 3 < x .count → x .start + x .count ≤ new) cs c (λ m l. omega (arith, S .below m l)) (λ l. e l .1) (λ l. absurd (omega arith));
       apart = apart-push cs c used (S .below) (S .apart) (λ l. e l .0);
       sums = sym (ap total (map-push (row-of ws) cs c) ∙ total-push (map (row-of ws) cs) (row-of ws c) ∙ omega (arith, S .sums, o)) } in
     subst (λ (x : List RowCell). Sound ws x new (all + c .count)) (sym (take-more-set rs n c h)) T

@@ -1,13 +1,13 @@
 -- A table held in memory: row i is read from cell i and from a memory that all cells share.
-use mathlib.Core.Path.{_≡_, refl, sym, ap, _∙_}
+use mathlib.Core.Path.{_≡_, refl, sym, ap, _∙_, subst}
 use mathlib.Core.List.{List, [], _∷_, _++_, map}
 use mathlib.Core.Logic.{_≢_, _⊎_, inl, inr}
 use Prim.Native.Nat.{ℕ, _+_, _<_, _≤_}
 use native.Mathlib.Omega.{arith}
 use lib.ListN.{length, getD, take, drop, set, length-set, length-map, length-take}
-use Rattle.std.proofs.shelf.Lists.{getD-take, getD-set-same, getD-set-other, ext-getD, map-set, map-push, getD-map, take-more-set, length-take-le}
+use Rattle.std.proofs.shelf.Lists.{getD-take, getD-past, getD-push, getD-append-left, length-push, getD-set-same, getD-set-other, ext-getD, map-set, map-push, getD-map, take-more-set, length-take-le}
 use Rattle.std.proofs.shelf.Sums.{sumBy-set, sumBy-push}
-use Rattle.std.proofs.shelf.Tests.{cases-eq}
+use Rattle.std.proofs.shelf.Tests.{cases-eq, cases-order}
 use Rattle.ir.specs.declared.entities.Value.{Value}
 use Rattle.table.specs.Table.{Row, Table, row, operands, no-row, total, with-operand, with-row}
 
@@ -22,6 +22,25 @@ take-set d n l i a h j =
             ∙ sym (getD-set-same (take n l) i a d (omega arith)) ∙ ap (λ (x : ℕ). getD (set (take n l) i a) x d) (sym p)
         | inr ne ↦ getD-take n (set l i a) k d kn ∙ getD-set-other l i k a d ne
             ∙ sym (getD-take n l k d kn) ∙ sym (getD-set-other (take n l) i k a d ne) ])
+
+-- one cell set, or one more
+module _ {C : Type 0} (none : C) where
+  pub set-cases : (P : C → Type 0) (cs : List C) (i : ℕ) (c : C) → P c → ((j : ℕ) → P (getD cs j none)) → i < length cs → (j : ℕ) → P (getD (set cs i c) j none)
+  set-cases P cs i c new old h j = elim (cases-eq j i) [
+      inl p ↦ subst P (sym (ap (λ (x : ℕ). getD (set cs i c) x none) p ∙ getD-set-same cs i c none h)) new
+    | inr ne ↦ subst P (sym (getD-set-other cs i j c none ne)) (old j) ]
+
+  pub at-end : (cs : List C) (c : C) (j : ℕ) → (j < length cs × (getD (cs ++ c ∷ []) j none ≡ getD cs j none)) ⊎ ((j ≡ length cs × (getD (cs ++ c ∷ []) j none ≡ c)) ⊎ (length cs < j × (getD (cs ++ c ∷ []) j none ≡ none)))
+  at-end cs c j = elim (cases-order j (length cs)) [
+      inl p ↦ inr (inl (p, getD-push cs c none j (sym p)))
+    | inr w ↦ elim w [
+        inl h ↦ inl (h, getD-append-left cs (c ∷ []) none j h)
+      | inr h ↦ inr (inr (h, getD-past (cs ++ c ∷ []) j none (omega (arith, length-push cs c)))) ] ]
+
+  pub push-cases : (P : C → Type 0) (cs : List C) (c : C) → ((j : ℕ) → P (getD cs j none)) → P c → P none → (j : ℕ) → P (getD (cs ++ c ∷ []) j none)
+  push-cases P cs c old new past j = elim (at-end cs c j) [
+      inl h ↦ subst P (sym (h .1)) (old j)
+    | inr w ↦ elim w [ inl h ↦ subst P (sym (h .1)) new | inr h ↦ subst P (sym (h .1)) past ] ]
 
 pub total-push : (rs : List Row) (r : Row) → total (rs ++ r ∷ []) ≡ total rs + length (r .operands)
 total-push rs r = sumBy-push (λ (x : Row). length (x .operands)) rs r
