@@ -33,7 +33,8 @@ pub fn apply<T: InstTable>(table: &mut T, call: TableCall<'_>) -> Result<TableRe
     }
 }
 
-fn same(a: Result<TableReply, TableFault>, b: Result<TableReply, TableFault>) -> bool
+// Whether two answers are the same.
+pub fn same(a: Result<TableReply, TableFault>, b: Result<TableReply, TableFault>) -> bool
     ensures { λ r. ⌜ Decides r (a ≡ b) ⌝ }
 {
     match (a, b) {
