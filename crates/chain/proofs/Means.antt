@@ -1,9 +1,9 @@
 -- What the memory of a chain says of its meaning.
-use mathlib.Core.Path.{_≡_, refl, sym, ap, _∙_, subst}
-use mathlib.Core.List.{List, map}
+use mathlib.Core.Path.{_≡_, sym, ap, _∙_, subst}
+use mathlib.Core.List.{List}
 use Prim.Native.Nat.{ℕ, _+_, _<_, _≤_}
 use native.Mathlib.Omega.{arith}
-use lib.ListN.{length, getD, take, length-map}
+use lib.ListN.{length, take, length-map}
 use Rattle.std.proofs.shelf.Lists.{getD-take, length-take-le}
 use Rattle.std.specs.declared.result.Result.the-variants.{Ok}
 use Rattle.ir.specs.declared.entities.Inst.{Inst}
@@ -12,7 +12,7 @@ use Rattle.table.proofs.Held.{row-held}
 use Rattle.table.proofs.Steps.{known, found}
 use Rattle.chain.specs.declared.cell.ChainRow.{ChainRow}
 use Rattle.chain.specs.declared.store.Chain.{Chain}
-use Rattle.chain.specs.Links.{at, no-cell, row-of, walked, Chained}
+use Rattle.chain.specs.Links.{at, no-cell, row-of, Chained}
 use Rattle.chain.specs.Chain.{chain-mean, Same}
 use Rattle.chain.proofs.Walks.{Sound, length-walked}
 

@@ -1,7 +1,7 @@
 -- Rows and cells: what a write to either leaves of the others.
 use mathlib.Core.Path.{_≡_, refl, sym, _∙_, ap, subst}
 use mathlib.Core.List.{List, [], _∷_, _++_, map}
-use mathlib.Core.Logic.{_≢_, _⊎_, inl, inr}
+use mathlib.Core.Logic.{inl, inr}
 use Prim.Native.Nat.{ℕ, zero, suc, _<_, _≤_, _+_}
 use native.Mathlib.Omega.{arith}
 use native.Mathlib.Nat.{not-suc-le-zero}
@@ -9,11 +9,11 @@ use lib.ListN.{length, getD, take, set, length-set, length-map}
 use Rattle.std.proofs.shelf.Lists.{getD-take, getD-set-same, getD-set-other, ext-getD, map-push, getD-append-left, length-push, length-take-le, take-more-set}
 use Rattle.std.proofs.shelf.Tests.{cases-eq, cases-order}
 use Rattle.ir.specs.declared.entities.Value.{Value}
-use Rattle.table.specs.Table.{Row, Table, no-value, total, with-operand, with-row}
+use Rattle.table.specs.Table.{Table, no-value, total, with-operand}
 use Rattle.table.proofs.Held.{held, at-end, push-cases, total-push, total-with, same-held, set-held}
 use Rattle.chain.specs.declared.cell.ChainRow.{ChainRow}
 use Rattle.chain.specs.declared.cell.Link.{Link}
-use Rattle.chain.specs.Links.{at, no-cell, link, no-link, walked, row-of, Chained, Holds, Linked, Below, Before, Apart}
+use Rattle.chain.specs.Links.{at, no-cell, link, no-link, walked, row-of, Chained, Holds, Linked, Below, Apart}
 
 pub length-walked : (ls : List Link) (n a : ℕ) → length (walked ls n a) ≡ n
 length-walked ls zero a = refl

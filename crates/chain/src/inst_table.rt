@@ -1,5 +1,5 @@
 ghost use mathlib.Core.Path.{_≡_};
-ghost use Prim.Native.Nat.{ℕ, min, _<_, _≤_, _+_, _^_};
+ghost use Prim.Native.Nat.{min, _<_, _≤_, _+_, _^_};
 ghost use lib.ListN.{length, getD, set};
 ghost use Rattle.std.specs.declared.result.Result.the-variants.{Ok, Err};
 ghost use Rattle.table.specs.Table.{empty, at-inst, add-answer, with-operand, with-row};

@@ -1,15 +1,15 @@
 -- Rows and the run of words: what a write to either leaves of the others.
 use mathlib.Core.Path.{_≡_, refl, sym, _∙_, ap, subst}
 use mathlib.Core.List.{List, [], _∷_, _++_, map}
-use mathlib.Core.Logic.{_≢_, _⊎_, inl, inr}
+use mathlib.Core.Logic.{_⊎_, inl, inr}
 use Prim.Native.Nat.{ℕ, _<_, _≤_, _+_, _-_}
 use native.Mathlib.Omega.{arith}
 use lib.ListN.{length, getD, take, drop, set, length-take, length-drop, length-map, length-set}
-use Rattle.std.proofs.shelf.Lists.{getD-take, getD-past, getD-push, getD-set-same, getD-set-other, map-push, take-set-le, drop-set-lt, drop-set-add, getD-append-left, length-push, length-take-le, take-more, take-more-set}
+use Rattle.std.proofs.shelf.Lists.{getD-take, getD-set-same, getD-set-other, map-push, take-set-le, drop-set-lt, drop-set-add, getD-append-left, length-take-le, take-more, take-more-set}
 use Rattle.std.proofs.shelf.Tests.{le-leb, lt-leb, cond-true, cond-false, cases-eq, cases-lt, cases-order}
 use Rattle.ir.specs.declared.entities.Value.{Value}
-use Rattle.table.specs.Table.{Row, Table, no-value, total, with-operand, with-row}
-use Rattle.table.proofs.Held.{held, take-set, at-end, set-cases, push-cases, total-push, total-with, same-held, set-held, set-cell-held, push-held}
+use Rattle.table.specs.Table.{Row, Table, no-value, total, with-operand}
+use Rattle.table.proofs.Held.{held, take-set, at-end, set-cases, push-cases, total-push, total-with, same-held, set-held, set-cell-held}
 use Rattle.rows.specs.declared.cell.RowCell.{RowCell}
 use Rattle.rows.specs.Cells.{at, no-cell, operands-of, row-of, Full, Below, Before, Apart}
 

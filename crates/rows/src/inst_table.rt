@@ -1,8 +1,8 @@
 ghost use mathlib.Core.Path.{_≡_};
-ghost use Prim.Native.Nat.{ℕ, min, _<_, _≤_, _+_, _^_};
+ghost use Prim.Native.Nat.{min, _<_, _≤_, _+_, _^_};
 ghost use lib.ListN.{length, getD, set, take, drop};
 ghost use Rattle.std.specs.declared.result.Result.the-variants.{Ok, Err};
-ghost use Rattle.table.specs.Table.{empty, row as rowAt, no-value, at-inst, add-answer, with-operand, with-row};
+ghost use Rattle.table.specs.Table.{empty, no-value, at-inst, add-answer, with-operand, with-row};
 ghost use Rattle.rows.specs.Cells.{no-cell, operands-of};
 ghost use Rattle.rows.specs.Rows.{rows-mean, rows-bounded, Same};
 use crate::cell::RowCell;
@@ -91,8 +91,8 @@ impl<'a> Rows<'a> {
         ensures { λ _. ⌜ rows-mean (now (self .exit)) ≡ with-operand (rows-mean (now (self .entry))) i place value ⌝ }
     {
         let row = self.rows[i];
-        let start = row.start as usize;
-        self.words[start + place] = value;
+        let at = row.start as usize + place;
+        self.words[at] = value;
     }
 
     // Adds an instruction whose n operands lie in its row.

@@ -1,10 +1,10 @@
 -- A table held in memory: row i is read from cell i and from a memory that all cells share.
-use mathlib.Core.Path.{_≡_, refl, sym, ap, _∙_, subst}
+use mathlib.Core.Path.{_≡_, sym, ap, _∙_, subst}
 use mathlib.Core.List.{List, [], _∷_, _++_, map}
 use mathlib.Core.Logic.{_≢_, _⊎_, inl, inr}
 use Prim.Native.Nat.{ℕ, _+_, _<_, _≤_}
 use native.Mathlib.Omega.{arith}
-use lib.ListN.{length, getD, take, drop, set, length-set, length-map, length-take}
+use lib.ListN.{length, getD, take, set, length-set, length-map, length-take}
 use Rattle.std.proofs.shelf.Lists.{getD-take, getD-past, getD-push, getD-append-left, length-push, getD-set-same, getD-set-other, ext-getD, map-set, map-push, getD-map, take-more-set, length-take-le}
 use Rattle.std.proofs.shelf.Sums.{sumBy-set, sumBy-push}
 use Rattle.std.proofs.shelf.Tests.{cases-eq, cases-order}

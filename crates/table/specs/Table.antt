@@ -1,6 +1,6 @@
 -- What an instruction table means, and what each call answers and leaves.
 use mathlib.Core.List.{List, [], _∷_, _++_}
-use mathlib.Core.Bool.{Bool, cond}
+use mathlib.Core.Bool.{cond}
 use Prim.Native.Nat.{ℕ, _+_, _≤_, _^_}
 use lib.Dec.{ltb, leb}
 use lib.ListN.{length, getD, set}

@@ -1,12 +1,7 @@
 use mathlib.Core.Path.{_≡_, sym, ap, _∙_}
-use mathlib.Core.List.{List}
-use native.Mathlib.Omega.{arith}
-use Prim.Native.Nat.{_+_}
 use lib.ListN.{take}
 use Rattle.std.proofs.shelf.Lists.{take-all}
 use Rattle.std.proofs.shelf.Tests.{both-ways}
-use Rattle.table.specs.declared.calls.TableCall.{TableCall}
-use Rattle.table.specs.Table.{Table}
 use Rattle.table.specs.Calls.{answers, after-all}
 use Rattle.table.proofs.Driven.{Part, part-same, part-other}
 use Rattle.table.proofs.drive.answer_alike.Needs as need

@@ -1,20 +1,10 @@
-use mathlib.Core.Path.{_≡_, refl, sym, ap, _∙_}
-use mathlib.Core.List.{List}
-use Prim.Native.Nat.{ℕ, _+_, _<_, _≤_}
+use mathlib.Core.Path.{_≡_, ap, _∙_}
+use Prim.Native.Nat.{ℕ, _+_}
 use native.Mathlib.Omega.{arith}
-use lib.ListN.{length, set, getD, length-set}
-use Rattle.std.proofs.shelf.Lists.{getD-set-other}
-use Rattle.std.specs.declared.result.Result.the-variants.{Ok}
-use Rattle.ir.specs.declared.entities.Value.{Value}
-use Rattle.table.specs.Table.{Row, Table, no-value}
-use Rattle.table.proofs.Held.{push-held}
-use Rattle.table.proofs.Steps.{known, unknown, add-no-inst, add-no-words, add-fits}
+use Rattle.table.proofs.Steps.{known}
 use Rattle.chain.specs.declared.cell.ChainRow.{ChainRow}
-use Rattle.chain.specs.declared.cell.Link.{Link}
-use Rattle.chain.specs.Links.{at, no-cell, link, no-link, row-of, walked}
-use Rattle.chain.specs.Chain.{chain-mean, Same}
-use Rattle.chain.proofs.Walks.{Sound, length-walked, walked-read, holds-more, past-mean, past-sound, set-mean, set-sound, push-sound}
-use Rattle.chain.proofs.Means.{cells, sound, count-is, chained-at, below-at, same-then}
+use Rattle.chain.specs.Links.{at, link}
+use Rattle.chain.proofs.Means.{chained-at, below-at}
 use Rattle.chain.proofs.store.Chain.find.Needs as need
 
 pub index-self-at : need.index-self-at

@@ -1,20 +1,12 @@
-use mathlib.Core.Path.{_≡_, refl, sym, ap, _∙_, subst}
-use mathlib.Core.List.{List}
-use Prim.Native.Nat.{ℕ, _+_, _<_, _≤_}
+use mathlib.Core.Path.{sym, ap, _∙_, subst}
+use Prim.Native.Nat.{ℕ}
 use native.Mathlib.Omega.{arith}
-use lib.ListN.{length, set, getD, length-set}
-use Rattle.std.proofs.shelf.Lists.{getD-set-other}
-use Rattle.std.specs.declared.result.Result.the-variants.{Ok}
-use Rattle.ir.specs.declared.entities.Value.{Value}
-use Rattle.table.specs.Table.{Row, Table, no-value}
-use Rattle.table.proofs.Held.{held, push-held}
-use Rattle.table.proofs.Steps.{known, unknown, add-no-inst, add-no-words, add-fits}
-use Rattle.chain.specs.declared.cell.ChainRow.{ChainRow}
-use Rattle.chain.specs.declared.cell.Link.{Link}
-use Rattle.chain.specs.Links.{at, no-cell, link, no-link, row-of, walked}
-use Rattle.chain.specs.Chain.{chain-mean, Same}
-use Rattle.chain.proofs.Walks.{Sound, length-walked, walked-read, holds-more, past-mean, past-sound, set-mean, set-sound, push-sound}
-use Rattle.chain.proofs.Means.{cells, sound, count-is, chained-at, below-at, same-then}
+use lib.ListN.{set, length-set}
+use Rattle.table.proofs.Held.{held}
+use Rattle.table.proofs.Steps.{known}
+use Rattle.chain.specs.Links.{no-cell, link, row-of}
+use Rattle.chain.proofs.Walks.{Sound, set-mean, set-sound}
+use Rattle.chain.proofs.Means.{cells, sound}
 use Rattle.chain.proofs.store.Chain.set.Needs as need
 
 pub ghost-self : need.ghost-self

@@ -1,23 +1,19 @@
-use mathlib.Core.Path.{_≡_, refl, sym, ap, _∙_}
+use mathlib.Core.Path.{_≡_, sym, ap, _∙_}
 use mathlib.Core.List.{List}
-use Prim.Native.Nat.{ℕ, _+_, _<_, _≤_}
+use Prim.Native.Nat.{ℕ}
 use borrow.Author.Needs.{needs}
 use native.Mathlib.Omega.{arith}
-use lib.ListN.{length, take, drop, getD}
-use Rattle.std.proofs.shelf.Lists.{getD-take}
+use lib.ListN.{length, take, drop}
 use Rattle.std.specs.declared.result.Result.{Result}
 use Rattle.std.specs.declared.result.Result.the-variants.{Ok, Err}
 use Rattle.ir.specs.declared.entities.Inst.{Inst}
 use Rattle.ir.specs.declared.entities.Value.{Value}
 use Rattle.table.specs.declared.fault.TableFault.{TableFault}
-use Rattle.table.specs.declared.fault.TableFault.the-variants.{Unknown}
-use Rattle.table.specs.Table.{Row, Table, no-value, accepted, add-answer, copy-answer, copy-table, row, with-operand, with-row}
-use Rattle.table.proofs.Steps.{known, placed, unplaced, Room, room}
-use Rattle.rows.specs.declared.cell.RowCell.{RowCell}
-use Rattle.rows.specs.Cells.{at, operands-of, row-of}
+use Rattle.table.specs.Table.{Row, Table, accepted, copy-answer, copy-table, row, with-row}
+use Rattle.table.proofs.Steps.{room}
 use Rattle.rows.specs.Rows.{rows-mean}
 use Rattle.rows.proofs.Words.{short-ops, long-ops}
-use Rattle.rows.proofs.Means.{count-is, Seen, seen, copied, source}
+use Rattle.rows.proofs.Means.{count-is, seen, copied, source}
 use Rattle.rows.proofs.inst_table.RowsTable.add_copy.Needs as need
 
 pub returns-in-Break-copy : need.returns-in-Break-copy

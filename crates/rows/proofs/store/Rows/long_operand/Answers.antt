@@ -1,17 +1,14 @@
-use mathlib.Core.Path.{_≡_, refl, sym, ap, _∙_, subst}
-use mathlib.Core.List.{List, [], _∷_, _++_}
-use Prim.Native.Nat.{ℕ, _+_, _<_, _≤_}
+use mathlib.Core.Path.{sym, ap, _∙_}
+use mathlib.Core.List.{List}
 use native.Mathlib.Omega.{arith}
-use lib.ListN.{length, take, drop, set, getD, length-set, length-take, length-drop}
-use Rattle.std.proofs.shelf.Lists.{length-take-le, take-all, take-more, take-more-set, drop-set-add, getD-take, getD-drop}
+use lib.ListN.{drop, getD}
+use Rattle.std.proofs.shelf.Lists.{getD-take, getD-drop}
 use Rattle.ir.specs.declared.entities.Value.{Value}
-use Rattle.table.specs.Table.{Row, Table, no-value}
-use Rattle.table.proofs.Held.{push-held}
+use Rattle.table.specs.Table.{no-value}
 use Rattle.rows.specs.declared.cell.RowCell.{RowCell}
-use Rattle.rows.specs.Cells.{at, no-cell, operands-of, row-of}
-use Rattle.rows.specs.Rows.{rows-mean, Same}
-use Rattle.rows.proofs.Words.{Sound, short-ops, long-ops, aside, short-mean, short-sound, long-within, long-mean, long-sound, past-mean, past-sound, push-sound}
-use Rattle.rows.proofs.Means.{cells, sound}
+use Rattle.rows.specs.Cells.{at}
+use Rattle.rows.proofs.Words.{long-ops, long-within}
+use Rattle.rows.proofs.Means.{sound}
 use Rattle.rows.proofs.store.Rows.long_operand.Needs as need
 
 pub index-self-start : need.index-self-start

@@ -1,17 +1,15 @@
-use mathlib.Core.Path.{_≡_, refl, sym, ap, _∙_, subst}
-use mathlib.Core.List.{List, [], _∷_, _++_}
-use Prim.Native.Nat.{ℕ, _+_, _<_, _≤_}
+use mathlib.Core.Path.{_≡_, ap, _∙_}
+use mathlib.Core.List.{List}
 use native.Mathlib.Omega.{arith}
-use lib.ListN.{length, take, drop, set, getD, length-set, length-take, length-drop}
-use Rattle.std.proofs.shelf.Lists.{length-take-le, take-all, take-more, take-more-set, drop-set-add, getD-take, getD-drop}
+use lib.ListN.{length, length-set}
 use Rattle.ir.specs.declared.entities.Value.{Value}
-use Rattle.table.specs.Table.{Row, Table, no-value, with-row}
+use Rattle.table.specs.Table.{with-row}
 use Rattle.table.proofs.Held.{push-held}
 use Rattle.rows.specs.declared.cell.RowCell.{RowCell}
-use Rattle.rows.specs.Cells.{at, no-cell, operands-of, row-of}
-use Rattle.rows.specs.Rows.{rows-mean, Same}
-use Rattle.rows.proofs.Words.{Sound, short-ops, long-ops, aside, short-mean, short-sound, long-within, long-mean, long-sound, past-mean, past-sound, push-sound, more-words}
-use Rattle.rows.proofs.Means.{cells, sound, same-then}
+use Rattle.rows.specs.Cells.{no-cell, operands-of, row-of}
+use Rattle.rows.specs.Rows.{rows-mean}
+use Rattle.rows.proofs.Words.{short-ops, push-sound}
+use Rattle.rows.proofs.Means.{sound}
 use Rattle.rows.proofs.store.Rows.push_short.Needs as need
 
 pub ghost-self : need.ghost-self

@@ -1,21 +1,12 @@
-use mathlib.Core.Path.{_≡_, refl, sym, ap, _∙_, subst}
-use mathlib.Core.List.{List, [], _∷_, _++_}
-use Prim.Native.Nat.{ℕ, _+_, _<_, _≤_}
 use native.Mathlib.Omega.{arith}
-use lib.ListN.{length, take, drop, set, getD, length-set, length-take, length-drop}
-use Rattle.std.proofs.shelf.Lists.{length-take-le, take-all, take-more, take-more-set, drop-set-add, getD-take, getD-drop}
-use Rattle.ir.specs.declared.entities.Value.{Value}
-use Rattle.table.specs.Table.{Row, Table, no-value}
-use Rattle.table.proofs.Held.{push-held}
-use Rattle.rows.specs.declared.cell.RowCell.{RowCell}
-use Rattle.rows.specs.Cells.{at, no-cell, operands-of, row-of}
-use Rattle.rows.specs.Rows.{rows-mean, Same}
-use Rattle.rows.proofs.Words.{Sound, short-ops, long-ops, aside, short-mean, short-sound, long-within, long-mean, long-sound, past-mean, past-sound, push-sound}
-use Rattle.rows.proofs.Means.{cells, sound}
+use lib.ListN.{length-set}
+use Rattle.table.specs.Table.{no-value}
+use Rattle.rows.proofs.Words.{long-within, long-mean, long-sound}
+use Rattle.rows.proofs.Means.{sound}
 use Rattle.rows.proofs.store.Rows.set_long.Needs as need
 
-pub index-self-start : need.index-self-start
-index-self-start c =
+pub index-self-at : need.index-self-at
+index-self-at c =
     let s = c .args .self .now in
     long-within (s .insts) (s .limit) (s .words .now) (s .rows .now) (s .count) (c .args .i) (c .args .place) no-value (s .used) (s .total) (c .pre .known) (omega (arith, s .«rows_room», s .counted)) (sound s) (c .pre .within) (c .pre .many)
       (omega (arith, s .«words_room», s .«used_some», s .«total_some»))
