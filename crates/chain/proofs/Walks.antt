@@ -9,10 +9,12 @@ use lib.ListN.{length, getD, take, set, length-set, length-map}
 use Rattle.std.proofs.shelf.Lists.{getD-take, getD-set-same, getD-set-other, ext-getD, map-push, getD-append-left, length-push, length-take-le, take-more-set}
 use Rattle.std.proofs.shelf.Tests.{cases-eq, cases-order}
 use Rattle.ir.specs.declared.entities.Value.{Value}
-use Rattle.table.specs.Table.{Table, no-value, total, with-operand}
-use Rattle.table.proofs.Held.{held, at-end, push-cases, total-push, total-with, same-held, set-held}
+use Rattle.table.specs.Table.{Table, no-value, total, with-operand, with-row}
+use Rattle.table.proofs.Held.{held, at-end, push-cases, total-push, total-with, same-held, set-held, push-held}
 use Rattle.chain.specs.declared.cell.ChainRow.{ChainRow}
 use Rattle.chain.specs.declared.cell.Link.{Link}
+use Rattle.chain.specs.declared.store.Chain.{Chain}
+use Rattle.chain.specs.Chain.{chain-mean, Placed, Fits}
 use Rattle.chain.specs.Links.{at, no-cell, link, no-link, walked, row-of, Chained, Holds, Linked, Below, Apart}
 
 pub length-walked : (ls : List Link) (n a : ℕ) → length (walked ls n a) ≡ n
@@ -72,6 +74,13 @@ pub record Sound (ls : List Link) (cs : List ChainRow) (used : ℕ) : Type 0 whe
   pub apart : Apart cs
   pub sums : used ≡ total (map (row-of ls) cs)
 
+module _ (s : Chain) where
+  abbrev pub cells : List ChainRow
+  cells = take (s .count) (s .rows .now)
+
+  pub length-cells : length cells ≡ s .count
+  length-cells = length-take-le (s .count) (s .rows .now) (omega (arith, s .«rows_room», s .counted))
+
 -- cells that a write spares keep their list
 row-spared : (ls ms : List Link) (c : ChainRow) → Chained ls (c .first) (c .count) → ((k : ℕ) → k < c .count → link ms (c .first + k) ≡ link ls (c .first + k)) → row-of ms c ≡ row-of ls c
 row-spared ls ms c h f =
@@ -80,28 +89,34 @@ row-spared ls ms c h f =
         (λ k l. ap (λ (x : Link). x .value) (f k l) ∙ sym (walked-read ls (c .first) (c .count) k h l)))
 
 -- a write past the used cells
-module _ (insts words : ℕ) (ls : List Link) (cs : List ChainRow) (used p : ℕ) (x : Link) (S : Sound ls cs used) (h : used ≤ p) where
-  spared : (i k : ℕ) → k < at cs i .count → link (set ls p x) (at cs i .first + k) ≡ link ls (at cs i .first + k)
-  spared i k l = getD-set-other ls p (at cs i .first + k) x no-link (λ z. absurd (omega (arith, z, S .below i)))
+module _ (s : Chain) (p : ℕ) (x : Link) (h : s .used ≤ p) where
+  abbrev written : List Link
+  written = set (s .links .now) p x
 
-  pub past-mean : held no-cell row-of insts words (set ls p x) cs ≡ held no-cell row-of insts words ls cs
-  past-mean = same-held no-cell row-of insts words ls (set ls p x) cs (λ i q. row-spared ls (set ls p x) (at cs i) (S .linked i) (spared i))
+  spared : (i k : ℕ) → k < at (cells s) i .count → link written (at (cells s) i .first + k) ≡ link (s .links .now) (at (cells s) i .first + k)
+  spared i k l = getD-set-other (s .links .now) p (at (cells s) i .first + k) x no-link (λ z. absurd (omega (arith, z, s .below i)))
 
-  pub past-sound : Sound (set ls p x) cs used
+  pub past-mean : held no-cell row-of (s .insts) (s .limit) written (cells s) ≡ chain-mean s
+  past-mean = same-held no-cell row-of (s .insts) (s .limit) (s .links .now) written (cells s) (λ i q. row-spared (s .links .now) written (at (cells s) i) (s .linked i) (spared i))
+
+  pub past-sound : Sound written (cells s) (s .used)
   past-sound =
     record {
-      linked = λ i k l. ap (λ (y : Link). y .next) (spared i k (omega arith)) ∙ S .linked i k l;
-      below = S .below;
-      apart = S .apart;
-      sums = S .sums ∙ ap (λ (t : Table). total (t .rows)) (sym past-mean) }
+      linked = λ i k l. ap (λ (y : Link). y .next) (spared i k (omega arith)) ∙ s .linked i k l;
+      below = s .below;
+      apart = s .apart;
+      sums = s .sums ∙ ap (λ (t : Table). total (t .rows)) (sym past-mean) }
 
 -- setting an operand
-module _ (insts words : ℕ) (ls : List Link) (rs : List ChainRow) (n i k : ℕ) (v : Value) (used : ℕ) (h : i < n) (b : n ≤ length rs) (S : Sound ls (take n rs) used) (j : k < at rs i .count) (u : used ≤ length ls) where
+module _ (s : Chain) (i k : ℕ) (v : Value) (P : Placed s i k) where
+  abbrev ls : List Link
+  ls = s .links .now
+
   abbrev cs : List ChainRow
-  cs = take n rs
+  cs = cells s
 
   abbrev c : ChainRow
-  c = at rs i
+  c = at (s .rows .now) i
 
   abbrev p : ℕ
   p = c .first + k
@@ -110,16 +125,16 @@ module _ (insts words : ℕ) (ls : List Link) (rs : List ChainRow) (n i k : ℕ)
   set-link = set ls p (record { value = v; next = link ls p .next })
 
   cell : at cs i ≡ c
-  cell = getD-take n rs i no-cell h
+  cell = getD-take (s .count) (s .rows .now) i no-cell (P .within)
 
   within : i < length cs
-  within = omega (arith, length-take-le n rs b)
+  within = omega (arith, length-cells s, P .within)
 
   chained : Chained ls (c .first) (c .count)
-  chained = subst (λ (x : ChainRow). Chained ls (x .first) (x .count)) cell (S .linked i)
+  chained = subst (λ (x : ChainRow). Chained ls (x .first) (x .count)) cell (s .linked i)
 
   inside : p < length ls
-  inside = omega (arith, subst (λ (x : ChainRow). x .first + x .count ≤ used) cell (S .below i))
+  inside = omega (arith, P .place, s .«used_some», s .«links_room», subst (λ (x : ChainRow). x .first + x .count ≤ s .used) cell (s .below i))
 
   next-same : (q : ℕ) → link set-link q .next ≡ link ls q .next
   next-same q = elim (cases-eq q p) [
@@ -133,49 +148,57 @@ module _ (insts words : ℕ) (ls : List Link) (rs : List ChainRow) (n i k : ℕ)
     walked-is set-link (c .first) (c .count) (set os k v) (λ m l. next-same (c .first + m) ∙ chained m l) (length-set os k v ∙ len)
       (λ m l. elim (cases-eq m k) [
           inl e ↦ ap (λ (x : ℕ). link set-link (c .first + x) .value) e ∙ ap (λ (x : Link). x .value) (getD-set-same ls p _ no-link inside)
-            ∙ sym (ap (λ (x : ℕ). getD (set os k v) x no-value) e ∙ getD-set-same os k v no-value (omega arith))
+            ∙ sym (ap (λ (x : ℕ). getD (set os k v) x no-value) e ∙ getD-set-same os k v no-value (omega (arith, P .place)))
         | inr ne ↦ ap (λ (x : Link). x .value) (getD-set-other ls p (c .first + m) _ no-link (λ z. ne (omega arith)))
             ∙ sym (getD-set-other os k m v no-value ne ∙ walked-read ls (c .first) (c .count) m chained l) ])
 
-  pub set-mean : held no-cell row-of insts words set-link cs ≡ with-operand (held no-cell row-of insts words ls cs) i k v
+  pub set-mean : held no-cell row-of (s .insts) (s .limit) set-link cs ≡ with-operand (held no-cell row-of (s .insts) (s .limit) ls cs) i k v
   set-mean =
-    set-held no-cell row-of insts words ls set-link cs i k v within
+    set-held no-cell row-of (s .insts) (s .limit) ls set-link cs i k v within
       (ap (row-of set-link) cell ∙ ap (λ (os : List Value). record { opcode = c .opcode; operands = os }) own
         ∙ ap (λ (x : ChainRow). record { opcode = x .opcode; operands = set (walked ls (x .count) (x .first)) k v }) (sym cell))
-      (λ m q ne. row-spared ls set-link (at cs m) (S .linked m) (λ l r.
+      (λ m q ne. row-spared ls set-link (at cs m) (s .linked m) (λ l r.
         getD-set-other ls p (at cs m .first + l) _ no-link (λ z.
           let e = ap (λ (x : ChainRow). x .first) cell in
           let f = ap (λ (x : ChainRow). x .count) cell in
           elim (cases-order m i) [
-            inl s ↦ ne s
+            inl o ↦ ne o
           | inr w ↦ elim w [
-              inl s ↦ absurd (omega (arith, z, e, f, S .apart (record { one = m; two = i; less = s; within = within })))
-            | inr s ↦ absurd (omega (arith, z, e, f, S .apart (record { one = i; two = m; less = s; within = q }))) ] ])))
+              inl o ↦ absurd (omega (arith, P .place, z, e, f, s .apart (record { one = m; two = i; less = o; within = within })))
+            | inr o ↦ absurd (omega (arith, P .place, z, e, f, s .apart (record { one = i; two = m; less = o; within = q }))) ] ])))
 
-  pub set-sound : Sound set-link cs used
+  pub set-sound : Sound set-link cs (s .used)
   set-sound =
     record {
-      linked = λ m l r. next-same (at cs m .first + l) ∙ S .linked m l r;
-      below = S .below;
-      apart = S .apart;
-      sums = S .sums ∙ sym (total-with (held no-cell row-of insts words ls cs) i k v (simp length-map within)) ∙ ap (λ (t : Table). total (t .rows)) (sym set-mean) }
+      linked = λ m l r. next-same (at cs m .first + l) ∙ s .linked m l r;
+      below = s .below;
+      apart = s .apart;
+      sums = s .sums ∙ sym (total-with (held no-cell row-of (s .insts) (s .limit) ls cs) i k v (simp length-map within)) ∙ ap (λ (t : Table). total (t .rows)) (sym set-mean) }
 
 -- one row more, whose cells lie from the mark on
-pub push-sound : (ls : List Link) (rs : List ChainRow) (n used : ℕ) (c : ChainRow) → n < length rs → Sound ls (take n rs) used → c .first ≡ used → Chained ls used (c .count) → Sound ls (take (n + 1) (set rs n c)) (used + c .count)
-push-sound ls rs n used c h S f chained =
-    let cs : List ChainRow = take n rs in
+module _ (s : Chain) (c : ChainRow) (F : Fits s (c .count)) where
+  room-for-row : s .count < length (s .rows .now)
+  room-for-row = omega (arith, F .inst, s .«rows_room»)
+
+  pub push-mean : held no-cell row-of (s .insts) (s .limit) (s .links .now) (take (s .count + 1) (set (s .rows .now) (s .count) c)) ≡ with-row (chain-mean s) (row-of (s .links .now) c)
+  push-mean = push-held no-cell row-of (s .insts) (s .limit) (s .links .now) (s .rows .now) (s .count) c room-for-row
+
+  pub push-sound : c .first ≡ s .used → Chained (s .links .now) (s .used) (c .count) → Sound (s .links .now) (take (s .count + 1) (set (s .rows .now) (s .count) c)) (s .used + c .count)
+  push-sound f chained =
+    let ls : List Link = s .links .now in
+    let cs : List ChainRow = cells s in
     let ds : List ChainRow = cs ++ c ∷ [] in
-    let T : Sound ls ds (used + c .count) = record {
-      linked = push-cases no-cell (λ x. Chained ls (x .first) (x .count)) cs c (S .linked) (subst (λ (a : ℕ). Chained ls a (c .count)) (sym f) chained) (λ k l. absurd (omega arith));
-      below = push-cases no-cell (λ x. x .first + x .count ≤ used + c .count) cs c (λ i. omega (arith, S .below i)) (omega (arith, f)) (omega arith);
+    let T : Sound ls ds (s .used + c .count) = record {
+      linked = push-cases no-cell (λ x. Chained ls (x .first) (x .count)) cs c (s .linked) (subst (λ (a : ℕ). Chained ls a (c .count)) (sym f) chained) (λ k l. absurd (omega arith));
+      below = push-cases no-cell (λ x. x .first + x .count ≤ s .used + c .count) cs c (λ i. omega (arith, s .below i)) (omega (arith, f)) (omega arith);
       apart = λ p. elim (at-end no-cell cs c (p .two)) [
           inl q ↦
             let one : at ds (p .one) ≡ at cs (p .one) = getD-append-left cs (c ∷ []) no-cell (p .one) (omega (arith, p .less, q .0)) in
-            omega (arith, ap (λ (x : ChainRow). x .first) one, ap (λ (x : ChainRow). x .count) one, ap (λ (x : ChainRow). x .first) (q .1), S .apart (record { one = p .one; two = p .two; less = p .less; within = q .0 }))
+            omega (arith, ap (λ (x : ChainRow). x .first) one, ap (λ (x : ChainRow). x .count) one, ap (λ (x : ChainRow). x .first) (q .1), s .apart (record { one = p .one; two = p .two; less = p .less; within = q .0 }))
         | inr w ↦ elim w [
             inl q ↦
               let one : at ds (p .one) ≡ at cs (p .one) = getD-append-left cs (c ∷ []) no-cell (p .one) (omega (arith, p .less, q .0)) in
-              omega (arith, f, ap (λ (x : ChainRow). x .first) one, ap (λ (x : ChainRow). x .count) one, ap (λ (x : ChainRow). x .first) (q .1), S .below (p .one))
+              omega (arith, f, ap (λ (x : ChainRow). x .first) one, ap (λ (x : ChainRow). x .count) one, ap (λ (x : ChainRow). x .first) (q .1), s .below (p .one))
           | inr q ↦ absurd (omega (arith, p .within, q .0, length-push cs c)) ] ];
-      sums = sym (ap total (map-push (row-of ls) cs c) ∙ total-push (map (row-of ls) cs) (row-of ls c) ∙ omega (arith, S .sums, length-walked ls (c .count) (c .first))) } in
-    subst (λ (x : List ChainRow). Sound ls x (used + c .count)) (sym (take-more-set rs n c h)) T
+      sums = sym (ap total (map-push (row-of ls) cs c) ∙ total-push (map (row-of ls) cs) (row-of ls c) ∙ omega (arith, s .sums, length-walked ls (c .count) (c .first))) } in
+    subst (λ (x : List ChainRow). Sound ls x (s .used + c .count)) (sym (take-more-set (s .rows .now) (s .count) c room-for-row)) T

@@ -1,14 +1,14 @@
 -- What a chain means.
 use mathlib.Core.Path.{_≡_, sym, _∙_, subst}
 use mathlib.Core.List.{map}
-use Prim.Native.Nat.{ℕ, _≤_}
+use Prim.Native.Nat.{ℕ, _+_, _<_, _≤_}
 use native.Mathlib.Nat.{le-trans}
 use lib.ListN.{take, length-map}
 use Rattle.std.proofs.shelf.Lists.{length-take-le}
 use denote.Ref.{now}
 use Rattle.table.specs.Table.{Table, Bounded, count}
 use Rattle.chain.specs.declared.store.Chain.{Chain}
-use Rattle.chain.specs.Links.{row-of}
+use Rattle.chain.specs.Links.{at, row-of}
 
 abbrev pub chain-mean : Chain → Table
 chain-mean s = record { rows = map (row-of (now (s .links))) (take (s .count) (now (s .rows))); insts = s .insts; words = s .limit }
@@ -30,3 +30,16 @@ pub record Same (s t : Chain) : Type 0 where
   pub limit : t .limit ≡ s .limit
   pub count : t .count ≡ s .count
   pub used : t .used ≡ s .used
+
+-- what is tested before a change: a place of an instruction, room for n operands, and room for a copy
+pub record Placed (s : Chain) (i k : ℕ) : Type 0 where
+  pub within : i < s .count
+  pub place : k < at (now (s .rows)) i .count
+
+pub record Fits (s : Chain) (n : ℕ) : Type 0 where
+  pub inst : s .count < s .insts
+  pub words : s .used + n ≤ s .limit
+
+pub record FitsCopy (s : Chain) (i : ℕ) : Type 0 where
+  pub within : i < s .count
+  pub fits : Fits s (at (now (s .rows)) i .count)

@@ -2,9 +2,10 @@ ghost use mathlib.Core.Path.{_≡_};
 ghost use Prim.Native.Nat.{min, _<_, _≤_, _+_, _^_};
 ghost use lib.ListN.{length, getD, set};
 ghost use Rattle.std.specs.declared.result.Result.the-variants.{Ok, Err};
-ghost use Rattle.table.specs.Table.{empty, at-inst, add-answer, with-operand, with-row};
-ghost use Rattle.chain.specs.Links.{no-cell, walked, Chained, Holds};
-ghost use Rattle.chain.specs.Chain.{chain-mean, chain-bounded, Same};
+ghost use Rattle.std.specs.Vec.{made};
+ghost use Rattle.table.specs.Table.{empty, count as rowCount, row as rowAt, operands as operandsAt, no-value, opcode-answer, operand-count-answer, operand-answer, set-answer, add-answer, copy-answer, with-operand, with-row};
+ghost use Rattle.chain.specs.Links.{at, walked, Chained, Holds};
+ghost use Rattle.chain.specs.Chain.{chain-mean, chain-bounded, Same, Placed, Fits, FitsCopy};
 use crate::cell::ChainRow;
 use crate::cell::Link;
 use crate::store::Chain;
@@ -26,8 +27,16 @@ impl<'a> Chain<'a> {
         Chain { rows, links, insts, limit, count: 0, used: 0 }
     }
 
+    fn len(&self) -> usize
+        ensures is { λ r. ⌜ r ≡ rowCount (chain-mean (now (self .entry))) ⌝ }
+        ensures small { λ r. ⌜ r ≤ 2 ^ 30 ⌝ }
+    {
+        self.count
+    }
+
     fn cell(&self, inst: Inst) -> Result<ChainRow, TableFault>
-        ensures { λ r. ⌜ r ≡ at-inst (chain-mean (now (self .entry))) inst (Ok (getD (now (now (self .entry) .rows)) (inst .0) no-cell)) ⌝ }
+        ensures opcode { λ r. ⌜ elim r [ Ok c ↦ Ok (c .opcode) ≡ opcode-answer (chain-mean (now (self .entry))) inst | Err f ↦ Err f ≡ opcode-answer (chain-mean (now (self .entry))) inst ] ⌝ }
+        ensures count { λ r. ⌜ elim r [ Ok c ↦ Ok (c .count) ≡ operand-count-answer (chain-mean (now (self .entry))) inst | Err f ↦ Err f ≡ operand-count-answer (chain-mean (now (self .entry))) inst ] ⌝ }
     {
         let i = inst.0 as usize;
         if i < self.count {
@@ -37,9 +46,27 @@ impl<'a> Chain<'a> {
         }
     }
 
+    // Whether an instruction has an operand at a place.
+    fn judge(&self, inst: Inst, place: u32) -> Result<(), TableFault>
+        ensures set { λ r. ⌜ r ≡ set-answer (chain-mean (now (self .entry))) inst place ⌝ }
+        ensures read { λ r. ⌜ elim r [ Ok _ ↦ operand-answer (chain-mean (now (self .entry))) inst place ≡ Ok (getD (operandsAt (chain-mean (now (self .entry))) (inst .0)) place no-value) | Err f ↦ operand-answer (chain-mean (now (self .entry))) inst place ≡ Err f ] ⌝ }
+        ensures placed { λ r. ⌜ made r (λ _. Placed (now (self .entry)) (inst .0) place) ⌝ }
+    {
+        let i = inst.0 as usize;
+        if i >= self.count {
+            return Err(TableFault::Unknown(inst.0));
+        }
+        let row = self.rows[i];
+        if place >= row.count {
+            return Err(TableFault::Unknown(place));
+        }
+        Ok(())
+    }
+
     // The next instruction's number, if it and n operands still have room.
     fn room(&self, n: usize) -> Result<Inst, TableFault>
-        ensures { λ r. ⌜ r ≡ add-answer (chain-mean (now (self .entry))) n ⌝ }
+        ensures is { λ r. ⌜ r ≡ add-answer (chain-mean (now (self .entry))) n ⌝ }
+        ensures fits { λ r. ⌜ made r (λ _. Fits (now (self .entry)) n) ⌝ }
     {
         if self.count == self.insts {
             return Err(TableFault::Full(self.insts as u32));
@@ -50,11 +77,23 @@ impl<'a> Chain<'a> {
         Ok(Inst(self.count as u32))
     }
 
+    // The next instruction's number, if a copy still has room.
+    fn room_for_copy(&self, inst: Inst) -> Result<Inst, TableFault>
+        ensures is { λ r. ⌜ r ≡ copy-answer (chain-mean (now (self .entry))) inst ⌝ }
+        ensures fits { λ r. ⌜ made r (λ _. FitsCopy (now (self .entry)) (inst .0)) ⌝ }
+    {
+        let i = inst.0 as usize;
+        if i >= self.count {
+            return Err(TableFault::Unknown(inst.0));
+        }
+        let row = self.rows[i];
+        self.room(row.count as usize)
+    }
+
     // The cell of an operand.
     fn find(&self, i: usize, place: usize) -> usize
-        requires known { ⌜ i < now self .count ⌝ }
-        requires within { ⌜ place < getD (now (now self .rows)) i no-cell .count ⌝ }
-        ensures place { λ r. ⌜ r ≡ getD (now (now (self .entry) .rows)) i no-cell .first + place ⌝ }
+        requires { ⌜ Placed (now self) i place ⌝ }
+        ensures place { λ r. ⌜ r ≡ at (now (now (self .entry) .rows)) i .first + place ⌝ }
         ensures used { λ r. ⌜ r < now (self .entry) .used ⌝ }
     {
         let row = self.rows[i];
@@ -66,9 +105,17 @@ impl<'a> Chain<'a> {
         at
     }
 
+    fn read(&self, i: usize, place: usize) -> Value
+        requires { ⌜ Placed (now self) i place ⌝ }
+        ensures { λ r. ⌜ r ≡ getD (operandsAt (chain-mean (now (self .entry))) i) place no-value ⌝ }
+    {
+        let at = self.find(i, place);
+        let link = self.links[at];
+        link.value
+    }
+
     fn set(&mut self, i: usize, place: usize, value: Value)
-        requires known { ⌜ i < now self .count ⌝ }
-        requires within { ⌜ place < getD (now (now self .rows)) i no-cell .count ⌝ }
+        requires { ⌜ Placed (now self) i place ⌝ }
         ensures { λ _. ⌜ chain-mean (now (self .exit)) ≡ with-operand (chain-mean (now (self .entry))) i place value ⌝ }
     {
         let at = self.find(i, place);
@@ -114,9 +161,8 @@ impl<'a> Chain<'a> {
     }
 
     // Adds an instruction whose operands lie in the n cells behind the used ones.
-    fn push(&mut self, opcode: Opcode, n: usize)
-        requires inst { ⌜ now self .count < now self .insts ⌝ }
-        requires words { ⌜ now self .used + n ≤ now self .limit ⌝ }
+    fn push_cells(&mut self, opcode: Opcode, n: usize)
+        requires fits { ⌜ Fits (now self) n ⌝ }
         requires chained { ⌜ Chained (now (now self .links)) (now self .used) n ⌝ }
         ensures { λ _. ⌜ chain-mean (now (self .exit)) ≡ with-row (chain-mean (now (self .entry))) (record { opcode = opcode; operands = walked (now (now (self .entry) .links)) n (now (self .entry) .used) }) ⌝ }
     {
@@ -126,6 +172,24 @@ impl<'a> Chain<'a> {
         self.count = count + 1;
         self.used = used + n;
     }
+
+    fn push(&mut self, opcode: Opcode, operands: &[Value])
+        requires { ⌜ Fits (now self) (length (now operands)) ⌝ }
+        ensures { λ _. ⌜ chain-mean (now (self .exit)) ≡ with-row (chain-mean (now (self .entry))) (record { opcode = opcode; operands = now (operands .entry) }) ⌝ }
+    {
+        self.write(operands);
+        self.push_cells(opcode, operands.len());
+    }
+
+    fn push_copy(&mut self, i: usize)
+        requires { ⌜ FitsCopy (now self) i ⌝ }
+        ensures { λ _. ⌜ chain-mean (now (self .exit)) ≡ with-row (chain-mean (now (self .entry))) (rowAt (chain-mean (now (self .entry))) i) ⌝ }
+    {
+        let row = self.rows[i];
+        let n = row.count as usize;
+        self.repeat(row.first as usize, n);
+        self.push_cells(row.opcode, n);
+    }
 }
 
 pub impl<'a> InstTable for Chain<'a> as ChainTable {
@@ -134,7 +198,7 @@ pub impl<'a> InstTable for Chain<'a> as ChainTable {
     ghost bounded = { chain-bounded };
 
     fn count(&self) -> u32 {
-        self.count as u32
+        self.len() as u32
     }
 
     fn inst_limit(&self) -> u32 {
@@ -160,38 +224,25 @@ pub impl<'a> InstTable for Chain<'a> as ChainTable {
     }
 
     fn operand(&self, inst: Inst, place: u32) -> Result<Value, TableFault> {
-        let row = self.cell(inst)?;
-        if place >= row.count {
-            return Err(TableFault::Unknown(place));
-        }
-        let at = self.find(inst.0 as usize, place as usize);
-        let link = self.links[at];
-        Ok(link.value)
+        self.judge(inst, place)?;
+        Ok(self.read(inst.0 as usize, place as usize))
     }
 
     fn set_operand(&mut self, inst: Inst, place: u32, value: Value) -> Result<(), TableFault> {
-        let row = self.cell(inst)?;
-        if place >= row.count {
-            return Err(TableFault::Unknown(place));
-        }
+        self.judge(inst, place)?;
         self.set(inst.0 as usize, place as usize, value);
         Ok(())
     }
 
     fn add(&mut self, opcode: Opcode, operands: &[Value]) -> Result<Inst, TableFault> {
-        let n = operands.len();
-        let inst = self.room(n)?;
-        self.write(operands);
-        self.push(opcode, n);
+        let inst = self.room(operands.len())?;
+        self.push(opcode, operands);
         Ok(inst)
     }
 
     fn add_copy(&mut self, inst: Inst) -> Result<Inst, TableFault> {
-        let row = self.cell(inst)?;
-        let n = row.count as usize;
-        let copy = self.room(n)?;
-        self.repeat(row.first as usize, n);
-        self.push(row.opcode, n);
+        let copy = self.room_for_copy(inst)?;
+        self.push_copy(inst.0 as usize);
         Ok(copy)
     }
 }

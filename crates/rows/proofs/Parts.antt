@@ -1,9 +1,9 @@
 -- What a reader of rows finds.
 use mathlib.Core.Path.{_≡_, ap, _∙_, subst}
 use mathlib.Core.List.{List}
-use Prim.Native.Nat.{_<_, _≤_}
+use Prim.Native.Nat.{ℕ, _<_, _≤_}
 use native.Mathlib.Omega.{arith}
-use lib.ListN.{length, take, length-map}
+use lib.ListN.{length, getD, take, length-map}
 use Rattle.std.specs.declared.result.Result.the-variants.{Ok, Err}
 use Rattle.std.proofs.shelf.Lists.{getD-take, getD-map, length-take-le}
 use Rattle.std.proofs.shelf.Tests.{cond-true, cond-false, lt-ltb, le-ltb}
@@ -15,7 +15,7 @@ use Rattle.rows.specs.declared.reader.RowsReader.{RowsReader}
 use Rattle.rows.specs.Cells.{at, no-cell, operands-of, row-of}
 use Rattle.rows.specs.Reader.{reader-mean, operands-answer}
 
-module _ (s : RowsReader) (i : Inst) where
+module _ (s : RowsReader) where
   abbrev cells : List RowCell
   cells = take (s .count) (s .rows .now)
 
@@ -25,17 +25,19 @@ module _ (s : RowsReader) (i : Inst) where
   length-mean : length (reader-mean s) ≡ s .count
   length-mean = length-map cells (row-of (s .words .now)) ∙ length-cells
 
-  pub past : s .count ≤ i .0 → operands-answer (reader-mean s) i ≡ Err (Unknown (i .0))
-  past h = cond-false _ _ _ (le-ltb (i .0) (length (reader-mean s)) (omega (arith, length-mean)))
+  pub past : (i : Inst) → s .count ≤ i .0 → operands-answer (reader-mean s) i ≡ Err (Unknown (i .0))
+  past i h = cond-false _ _ _ (le-ltb (i .0) (length (reader-mean s)) (omega (arith, length-mean)))
 
-  module _ (h : i .0 < s .count) where
-    cell : at cells (i .0) ≡ at (s .rows .now) (i .0)
-    cell = getD-take (s .count) (s .rows .now) (i .0) no-cell h
+  pub here : (i : Inst) → i .0 < s .count → operands-answer (reader-mean s) i ≡ Ok (getD (reader-mean s) (i .0) no-row .operands)
+  here i h = cond-true _ _ _ (lt-ltb (i .0) (length (reader-mean s)) (omega (arith, length-mean)))
 
-    pub whole : length (operands-of (s .words .now) (at (s .rows .now) (i .0))) ≡ at (s .rows .now) (i .0) .count
-    whole = subst (λ (c : RowCell). length (operands-of (s .words .now) c) ≡ c .count) cell (s .full (i .0))
+  module _ (i : ℕ) (h : i < s .count) where
+    cell : at cells i ≡ at (s .rows .now) i
+    cell = getD-take (s .count) (s .rows .now) i no-cell h
 
-    pub here : operands-answer (reader-mean s) i ≡ Ok (operands-of (s .words .now) (at (s .rows .now) (i .0)))
-    here =
-      cond-true _ _ _ (lt-ltb (i .0) (length (reader-mean s)) (omega (arith, length-mean)))
-      ∙ ap (λ (r : Row). Ok (r .operands)) (getD-map (row-of (s .words .now)) cells (i .0) no-cell no-row (omega (arith, length-cells)) ∙ ap (row-of (s .words .now)) cell)
+    pub whole : length (operands-of (s .words .now) (at (s .rows .now) i)) ≡ at (s .rows .now) i .count
+    whole = subst (λ (c : RowCell). length (operands-of (s .words .now) c) ≡ c .count) cell (s .full i)
+
+    pub read-is : getD (reader-mean s) i no-row .operands ≡ operands-of (s .words .now) (at (s .rows .now) i)
+    read-is =
+      ap (λ (r : Row). r .operands) (getD-map (row-of (s .words .now)) cells i no-cell no-row (omega (arith, length-cells)) ∙ ap (row-of (s .words .now)) cell)

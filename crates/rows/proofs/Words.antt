@@ -8,9 +8,11 @@ use lib.ListN.{length, getD, take, drop, set, length-take, length-drop, length-m
 use Rattle.std.proofs.shelf.Lists.{getD-take, getD-set-same, getD-set-other, map-push, take-set-le, drop-set-lt, drop-set-add, getD-append-left, length-take-le, take-more, take-more-set}
 use Rattle.std.proofs.shelf.Tests.{le-leb, lt-leb, cond-true, cond-false, cases-eq, cases-lt, cases-order}
 use Rattle.ir.specs.declared.entities.Value.{Value}
-use Rattle.table.specs.Table.{Row, Table, no-value, total, with-operand}
-use Rattle.table.proofs.Held.{held, take-set, at-end, set-cases, push-cases, total-push, total-with, same-held, set-held, set-cell-held}
+use Rattle.table.specs.Table.{Row, Table, no-value, total, with-operand, with-row}
+use Rattle.table.proofs.Held.{held, take-set, at-end, set-cases, push-cases, total-push, total-with, same-held, set-held, set-cell-held, push-held}
 use Rattle.rows.specs.declared.cell.RowCell.{RowCell}
+use Rattle.rows.specs.declared.store.Rows.{Rows}
+use Rattle.rows.specs.Rows.{rows-mean, Placed, Fits}
 use Rattle.rows.specs.Cells.{at, no-cell, operands-of, row-of, Full, Below, Before, Apart}
 
 -- the operands of a cell
@@ -26,6 +28,16 @@ pub record Sound (ws : List Value) (cs : List RowCell) (used all : ℕ) : Type 0
   pub below : Below cs used
   pub apart : Apart cs
   pub sums : all ≡ total (map (row-of ws) cs)
+
+module _ (s : Rows) where
+  abbrev pub cells : List RowCell
+  cells = take (s .count) (s .rows .now)
+
+  pub sound : Sound (s .words .now) cells (s .used) (s .total)
+  sound = record { full = s .full; below = s .below; apart = s .apart; sums = s .sums }
+
+  pub length-cells : length cells ≡ s .count
+  length-cells = length-take-le (s .count) (s .rows .now) (omega (arith, s .«rows_room», s .counted))
 
 -- cells that differ in neither count nor start
 abbrev Alike : List RowCell → List RowCell → Type 0
@@ -75,24 +87,33 @@ more-words ws us from k v os e h before j is =
     ∙ ap (λ (x : List Value). x ++ v ∷ []) before ∙ ap (λ (x : Value). take k os ++ x ∷ []) is ∙ sym (take-more os k no-value j)
 
 -- setting an operand
-module _ (insts words : ℕ) (ws : List Value) (rs : List RowCell) (n i k : ℕ) (v : Value) (used all : ℕ) (h : i < n) (b : n ≤ length rs) (S : Sound ws (take n rs) used all) (j : k < at rs i .count) where
+module _ (s : Rows) (i k : ℕ) (v : Value) (P : Placed s i k) where
+  abbrev ws : List Value
+  ws = s .words .now
+
+  abbrev rs : List RowCell
+  rs = s .rows .now
+
   abbrev cs : List RowCell
-  cs = take n rs
+  cs = cells s
 
   abbrev c : RowCell
   c = at rs i
 
   abbrev mean : List Value → List RowCell → Table
-  mean = held no-cell row-of insts words
+  mean = held no-cell row-of (s .insts) (s .limit)
+
+  room : s .count ≤ length rs
+  room = omega (arith, s .«rows_room», s .counted)
 
   cell : at cs i ≡ c
-  cell = getD-take n rs i no-cell h
+  cell = getD-take (s .count) rs i no-cell (P .within)
 
   within : i < length cs
-  within = omega (arith, length-take-le n rs b)
+  within = omega (arith, length-cells s, P .within)
 
   whole : length (operands-of ws c) ≡ c .count
-  whole = subst (λ (x : RowCell). length (operands-of ws x) ≡ x .count) cell (S .full i)
+  whole = subst (λ (x : RowCell). length (operands-of ws x) ≡ x .count) cell (s .full i)
 
   abbrev row-set : RowCell → Row
   row-set x = record { opcode = x .opcode; operands = set (operands-of ws x) k v }
@@ -101,75 +122,75 @@ module _ (insts words : ℕ) (ws : List Value) (rs : List RowCell) (n i k : ℕ)
   set-short = record { opcode = c .opcode; count = c .count; start = c .start; short = set (c .short) k v }
 
   short-row : c .count ≤ 3 → row-of ws set-short ≡ row-set (at cs i)
-  short-row s =
-    let e : length (take (c .count) (c .short)) ≡ c .count = sym (ap length (short-ops ws c s)) ∙ whole in
+  short-row m =
+    let e : length (take (c .count) (c .short)) ≡ c .count = sym (ap length (short-ops ws c m)) ∙ whole in
     ap (λ (os : List Value). record { opcode = c .opcode; operands = os })
-      (short-ops ws set-short s
-      ∙ take-set no-value (c .count) (c .short) k v j (omega (arith, e, length-take (c .count) (c .short)))
-      ∙ ap (λ (x : List Value). set x k v) (sym (short-ops ws c s)))
+      (short-ops ws set-short m
+      ∙ take-set no-value (c .count) (c .short) k v (P .place) (omega (arith, e, length-take (c .count) (c .short)))
+      ∙ ap (λ (x : List Value). set x k v) (sym (short-ops ws c m)))
     ∙ ap row-set (sym cell)
 
-  pub short-mean : c .count ≤ 3 → mean ws (take n (set rs i set-short)) ≡ with-operand (mean ws cs) i k v
-  short-mean s =
-    ap (mean ws) (take-set no-cell n rs i set-short h b)
-    ∙ set-cell-held no-cell row-of insts words ws cs i k v set-short within (short-row s)
+  pub short-mean : c .count ≤ 3 → mean ws (take (s .count) (set rs i set-short)) ≡ with-operand (mean ws cs) i k v
+  short-mean m =
+    ap (mean ws) (take-set no-cell (s .count) rs i set-short (P .within) room)
+    ∙ set-cell-held no-cell row-of (s .insts) (s .limit) ws cs i k v set-short within (short-row m)
 
-  pub short-sound : c .count ≤ 3 → Sound ws (take n (set rs i set-short)) used all
-  short-sound s =
+  pub short-sound : c .count ≤ 3 → Sound ws (take (s .count) (set rs i set-short)) (s .used) (s .total)
+  short-sound m =
     let al : Alike cs (set cs i set-short) = alike-set cs i set-short (ap (λ (x : RowCell). x .count) (sym cell)) (ap (λ (x : RowCell). x .start) (sym cell)) within in
-    let f : length (operands-of ws set-short) ≡ c .count = ap (λ (r : Row). length (r .operands)) (short-row s) ∙ length-set (operands-of ws (at cs i)) k v ∙ ap (λ (x : RowCell). length (operands-of ws x)) cell ∙ whole in
-    let T : Sound ws (set cs i set-short) used all = record {
-      full = set-cases no-cell (λ x. length (operands-of ws x) ≡ x .count) cs i set-short f (S .full) within;
-      below = λ m l. omega (arith, al m .0, al m .1, S .below m (omega (arith, al m .0)));
-      apart = apart-alike cs (set cs i set-short) al (S .apart);
-      sums = S .sums ∙ sym (total-with (mean ws cs) i k v (simp length-map within)) ∙ ap (λ (t : Table). total (t .rows)) (sym (set-cell-held no-cell row-of insts words ws cs i k v set-short within (short-row s))) } in
-    subst (λ (x : List RowCell). Sound ws x used all) (sym (take-set no-cell n rs i set-short h b)) T
+    let f : length (operands-of ws set-short) ≡ c .count = ap (λ (r : Row). length (r .operands)) (short-row m) ∙ length-set (operands-of ws (at cs i)) k v ∙ ap (λ (x : RowCell). length (operands-of ws x)) cell ∙ whole in
+    let T : Sound ws (set cs i set-short) (s .used) (s .total) = record {
+      full = set-cases no-cell (λ x. length (operands-of ws x) ≡ x .count) cs i set-short f (s .full) within;
+      below = λ q l. omega (arith, al q .0, al q .1, s .below q (omega (arith, al q .0)));
+      apart = apart-alike cs (set cs i set-short) al (s .apart);
+      sums = s .sums ∙ sym (total-with (mean ws cs) i k v (simp length-map within)) ∙ ap (λ (t : Table). total (t .rows)) (sym (set-cell-held no-cell row-of (s .insts) (s .limit) ws cs i k v set-short within (short-row m))) } in
+    subst (λ (x : List RowCell). Sound ws x (s .used) (s .total)) (sym (take-set no-cell (s .count) rs i set-short (P .within) room)) T
 
-  module _ (s : 3 < c .count) where
+  module _ (m : 3 < c .count) where
     long : 3 < at cs i .count
     long = omega (arith, ap (λ (x : RowCell). x .count) cell)
 
-    pub long-within : used ≤ length ws → c .start + k < length ws
-    long-within u = omega (arith, ap (λ (x : RowCell). x .start) cell, ap (λ (x : RowCell). x .count) cell, S .below i long)
+    pub long-within : c .start + k < length ws
+    long-within = omega (arith, P .place, s .«words_room», s .«used_some», s .«total_some», ap (λ (x : RowCell). x .start) cell, ap (λ (x : RowCell). x .count) cell, s .below i long)
 
     long-row : row-of (set ws (c .start + k) v) (at cs i) ≡ row-set (at cs i)
     long-row =
-      let e : length (take (c .count) (drop (c .start) ws)) ≡ c .count = sym (ap length (long-ops ws c s)) ∙ whole in
+      let e : length (take (c .count) (drop (c .start) ws)) ≡ c .count = sym (ap length (long-ops ws c m)) ∙ whole in
       ap (row-of (set ws (c .start + k) v)) cell
       ∙ ap (λ (os : List Value). record { opcode = c .opcode; operands = os })
-        (long-ops (set ws (c .start + k) v) c s ∙ ap (take (c .count)) (drop-set-add (c .start) ws k v)
-        ∙ take-set no-value (c .count) (drop (c .start) ws) k v j (omega (arith, e, length-take (c .count) (drop (c .start) ws)))
-        ∙ ap (λ (x : List Value). set x k v) (sym (long-ops ws c s)))
+        (long-ops (set ws (c .start + k) v) c m ∙ ap (take (c .count)) (drop-set-add (c .start) ws k v)
+        ∙ take-set no-value (c .count) (drop (c .start) ws) k v (P .place) (omega (arith, e, length-take (c .count) (drop (c .start) ws)))
+        ∙ ap (λ (x : List Value). set x k v) (sym (long-ops ws c m)))
       ∙ ap row-set (sym cell)
 
     pub long-mean : mean (set ws (c .start + k) v) cs ≡ with-operand (mean ws cs) i k v
     long-mean =
-      set-held no-cell row-of insts words ws (set ws (c .start + k) v) cs i k v within long-row
-        (λ m q ne. row-aside ws (at cs m) (c .start + k) v (λ lm.
+      set-held no-cell row-of (s .insts) (s .limit) ws (set ws (c .start + k) v) cs i k v within long-row
+        (λ o q ne. row-aside ws (at cs o) (c .start + k) v (λ lo.
           let e = ap (λ (x : RowCell). x .start) cell in
           let f = ap (λ (x : RowCell). x .count) cell in
-          elim (cases-order m i) [
+          elim (cases-order o i) [
             inl p ↦ absurd (ne p)
           | inr w ↦ elim w [
-              inl x ↦ inr (omega (arith, e, S .apart (record { one = m; two = i; less = x; one-long = lm; two-long = long })))
-            | inr x ↦ inl (omega (arith, e, f, S .apart (record { one = i; two = m; less = x; one-long = long; two-long = lm }))) ] ]))
+              inl x ↦ inr (omega (arith, P .place, e, s .apart (record { one = o; two = i; less = x; one-long = lo; two-long = long })))
+            | inr x ↦ inl (omega (arith, P .place, e, f, s .apart (record { one = i; two = o; less = x; one-long = long; two-long = lo }))) ] ]))
 
-    pub long-sound : Sound (set ws (c .start + k) v) cs used all
+    pub long-sound : Sound (set ws (c .start + k) v) cs (s .used) (s .total)
     long-sound =
       record {
-        full = full-words ws cs (c .start + k) v (S .full);
-        below = S .below;
-        apart = S .apart;
-        sums = S .sums ∙ sym (total-with (mean ws cs) i k v (simp length-map within)) ∙ ap (λ (t : Table). total (t .rows)) (sym long-mean) }
+        full = full-words ws cs (c .start + k) v (s .full);
+        below = s .below;
+        apart = s .apart;
+        sums = s .sums ∙ sym (total-with (mean ws cs) i k v (simp length-map within)) ∙ ap (λ (t : Table). total (t .rows)) (sym long-mean) }
 
 -- a write past the used words
-module _ (insts words : ℕ) (ws : List Value) (cs : List RowCell) (used all p : ℕ) (v : Value) (S : Sound ws cs used all) (h : used ≤ p) where
-  pub past-mean : held no-cell row-of insts words (set ws p v) cs ≡ held no-cell row-of insts words ws cs
-  past-mean = same-held no-cell row-of insts words ws (set ws p v) cs (λ m q. row-aside ws (at cs m) p v (λ l. inr (omega (arith, S .below m l))))
+module _ (s : Rows) (p : ℕ) (v : Value) (h : s .used ≤ p) where
+  pub past-mean : held no-cell row-of (s .insts) (s .limit) (set (s .words .now) p v) (cells s) ≡ rows-mean s
+  past-mean = same-held no-cell row-of (s .insts) (s .limit) (s .words .now) (set (s .words .now) p v) (cells s) (λ m q. row-aside (s .words .now) (at (cells s) m) p v (λ l. inr (omega (arith, s .below m l))))
 
-  pub past-sound : Sound (set ws p v) cs used all
+  pub past-sound : Sound (set (s .words .now) p v) (cells s) (s .used) (s .total)
   past-sound =
-    record { full = full-words ws cs p v (S .full); below = S .below; apart = S .apart; sums = S .sums ∙ ap (λ (t : Table). total (t .rows)) (sym past-mean) }
+    record { full = full-words (s .words .now) (cells s) p v (s .full); below = s .below; apart = s .apart; sums = s .sums ∙ ap (λ (t : Table). total (t .rows)) (sym past-mean) }
 
 -- one cell more
 apart-push : (cs : List RowCell) (c : RowCell) (used : ℕ) → Below cs used → Apart cs → (3 < c .count → used ≤ c .start) → Apart (cs ++ c ∷ [])
@@ -196,13 +217,23 @@ apart-push cs c used b a e p =
       | inr q ↦ let g1 = ap (λ (x : RowCell). x .count) (q .1) in absurd (omega (arith, g1, p .two-long)) ] ]
 
 -- a new cell whose list, if long, lies between the old mark and the new one
-pub push-sound : (ws : List Value) (rs : List RowCell) (n used new all : ℕ) (c : RowCell) → n < length rs → Sound ws (take n rs) used all → length (operands-of ws c) ≡ c .count →
-  used ≤ new → (3 < c .count → (used ≤ c .start) × (c .start + c .count ≤ new)) → Sound ws (take (n + 1) (set rs n c)) new (all + c .count)
-push-sound ws rs n used new all c h S o u e =
-    let cs : List RowCell = take n rs in
-    let T : Sound ws (cs ++ c ∷ []) new (all + c .count) = record {
-      full = push-cases no-cell (λ x. length (operands-of ws x) ≡ x .count) cs c (S .full) o refl;
-      below = push-cases no-cell (λ x. 3 < x .count → x .start + x .count ≤ new) cs c (λ m l. omega (arith, S .below m l)) (λ l. e l .1) (λ l. absurd (omega arith));
-      apart = apart-push cs c used (S .below) (S .apart) (λ l. e l .0);
-      sums = sym (ap total (map-push (row-of ws) cs c) ∙ total-push (map (row-of ws) cs) (row-of ws c) ∙ omega (arith, S .sums, o)) } in
-    subst (λ (x : List RowCell). Sound ws x new (all + c .count)) (sym (take-more-set rs n c h)) T
+module _ (s : Rows) (c : RowCell) (F : Fits s (c .count)) where
+  room-for-row : s .count < length (s .rows .now)
+  room-for-row = omega (arith, F .inst, s .«rows_room»)
+
+  pub push-mean : (os : List Value) → operands-of (s .words .now) c ≡ os →
+    held no-cell row-of (s .insts) (s .limit) (s .words .now) (take (s .count + 1) (set (s .rows .now) (s .count) c)) ≡ with-row (rows-mean s) (record { opcode = c .opcode; operands = os })
+  push-mean os e =
+    push-held no-cell row-of (s .insts) (s .limit) (s .words .now) (s .rows .now) (s .count) c room-for-row
+    ∙ ap (λ (x : List Value). with-row (rows-mean s) (record { opcode = c .opcode; operands = x })) e
+
+  pub push-sound : (new : ℕ) → length (operands-of (s .words .now) c) ≡ c .count → s .used ≤ new → (3 < c .count → (s .used ≤ c .start) × (c .start + c .count ≤ new)) →
+    Sound (s .words .now) (take (s .count + 1) (set (s .rows .now) (s .count) c)) new (s .total + c .count)
+  push-sound new o u e =
+    let ws : List Value = s .words .now in
+    let T : Sound ws (cells s ++ c ∷ []) new (s .total + c .count) = record {
+      full = push-cases no-cell (λ x. length (operands-of ws x) ≡ x .count) (cells s) c (s .full) o refl;
+      below = push-cases no-cell (λ x. 3 < x .count → x .start + x .count ≤ new) (cells s) c (λ m l. omega (arith, s .below m l)) (λ l. e l .1) (λ l. absurd (omega arith));
+      apart = apart-push (cells s) c (s .used) (s .below) (s .apart) (λ l. e l .0);
+      sums = sym (ap total (map-push (row-of ws) (cells s) c) ∙ total-push (map (row-of ws) (cells s)) (row-of ws c) ∙ omega (arith, s .sums, o)) } in
+    subst (λ (x : List RowCell). Sound ws x new (s .total + c .count)) (sym (take-more-set (s .rows .now) (s .count) c room-for-row)) T

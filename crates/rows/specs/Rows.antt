@@ -1,14 +1,14 @@
 -- What rows mean.
 use mathlib.Core.Path.{_≡_, sym, _∙_, subst}
 use mathlib.Core.List.{map}
-use Prim.Native.Nat.{ℕ, _≤_}
+use Prim.Native.Nat.{ℕ, _+_, _<_, _≤_}
 use native.Mathlib.Nat.{le-trans}
 use lib.ListN.{take, length-map}
 use Rattle.std.proofs.shelf.Lists.{length-take-le}
 use denote.Ref.{now}
 use Rattle.table.specs.Table.{Table, Bounded, count}
 use Rattle.rows.specs.declared.store.Rows.{Rows}
-use Rattle.rows.specs.Cells.{row-of}
+use Rattle.rows.specs.Cells.{at, row-of}
 
 abbrev pub rows-mean : Rows → Table
 rows-mean s = record { rows = map (row-of (now (s .words))) (take (s .count) (now (s .rows))); insts = s .insts; words = s .limit }
@@ -31,3 +31,16 @@ pub record Same (s t : Rows) : Type 0 where
   pub count : t .count ≡ s .count
   pub used : t .used ≡ s .used
   pub total : t .total ≡ s .total
+
+-- what is tested before a change: a place of an instruction, room for n operands, and room for a copy
+pub record Placed (s : Rows) (i k : ℕ) : Type 0 where
+  pub within : i < s .count
+  pub place : k < at (now (s .rows)) i .count
+
+pub record Fits (s : Rows) (n : ℕ) : Type 0 where
+  pub inst : s .count < s .insts
+  pub words : s .total + n ≤ s .limit
+
+pub record FitsCopy (s : Rows) (i : ℕ) : Type 0 where
+  pub within : i < s .count
+  pub fits : Fits s (at (now (s .rows)) i .count)

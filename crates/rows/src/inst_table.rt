@@ -2,9 +2,10 @@ ghost use mathlib.Core.Path.{_≡_};
 ghost use Prim.Native.Nat.{min, _<_, _≤_, _+_, _^_};
 ghost use lib.ListN.{length, getD, set, take, drop};
 ghost use Rattle.std.specs.declared.result.Result.the-variants.{Ok, Err};
-ghost use Rattle.table.specs.Table.{empty, no-value, at-inst, add-answer, with-operand, with-row};
-ghost use Rattle.rows.specs.Cells.{no-cell, operands-of};
-ghost use Rattle.rows.specs.Rows.{rows-mean, rows-bounded, Same};
+ghost use Rattle.std.specs.Vec.{made};
+ghost use Rattle.table.specs.Table.{empty, count as rowCount, row as rowAt, operands as operandsAt, no-value, opcode-answer, operand-count-answer, operand-answer, set-answer, add-answer, copy-answer, with-operand, with-row};
+ghost use Rattle.rows.specs.Cells.{at};
+ghost use Rattle.rows.specs.Rows.{rows-mean, rows-bounded, Same, Placed, Fits, FitsCopy};
 use crate::cell::RowCell;
 use crate::store::Rows;
 use ir::entities::Inst;
@@ -37,8 +38,16 @@ impl<'a> Rows<'a> {
         Rows { rows, words, insts, limit, count: 0, used: 0, total: 0 }
     }
 
+    fn len(&self) -> usize
+        ensures is { λ r. ⌜ r ≡ rowCount (rows-mean (now (self .entry))) ⌝ }
+        ensures small { λ r. ⌜ r ≤ 2 ^ 30 ⌝ }
+    {
+        self.count
+    }
+
     fn cell(&self, inst: Inst) -> Result<RowCell, TableFault>
-        ensures { λ r. ⌜ r ≡ at-inst (rows-mean (now (self .entry))) inst (Ok (getD (now (now (self .entry) .rows)) (inst .0) no-cell)) ⌝ }
+        ensures opcode { λ r. ⌜ elim r [ Ok c ↦ Ok (c .opcode) ≡ opcode-answer (rows-mean (now (self .entry))) inst | Err f ↦ Err f ≡ opcode-answer (rows-mean (now (self .entry))) inst ] ⌝ }
+        ensures count { λ r. ⌜ elim r [ Ok c ↦ Ok (c .count) ≡ operand-count-answer (rows-mean (now (self .entry))) inst | Err f ↦ Err f ≡ operand-count-answer (rows-mean (now (self .entry))) inst ] ⌝ }
     {
         let i = inst.0 as usize;
         if i < self.count {
@@ -48,9 +57,27 @@ impl<'a> Rows<'a> {
         }
     }
 
+    // Whether an instruction has an operand at a place.
+    fn judge(&self, inst: Inst, place: u32) -> Result<(), TableFault>
+        ensures set { λ r. ⌜ r ≡ set-answer (rows-mean (now (self .entry))) inst place ⌝ }
+        ensures read { λ r. ⌜ elim r [ Ok _ ↦ operand-answer (rows-mean (now (self .entry))) inst place ≡ Ok (getD (operandsAt (rows-mean (now (self .entry))) (inst .0)) place no-value) | Err f ↦ operand-answer (rows-mean (now (self .entry))) inst place ≡ Err f ] ⌝ }
+        ensures placed { λ r. ⌜ made r (λ _. Placed (now (self .entry)) (inst .0) place) ⌝ }
+    {
+        let i = inst.0 as usize;
+        if i >= self.count {
+            return Err(TableFault::Unknown(inst.0));
+        }
+        let row = self.rows[i];
+        if place >= row.count {
+            return Err(TableFault::Unknown(place));
+        }
+        Ok(())
+    }
+
     // The next instruction's number, if it and n operands still have room.
     fn room(&self, n: usize) -> Result<Inst, TableFault>
-        ensures { λ r. ⌜ r ≡ add-answer (rows-mean (now (self .entry))) n ⌝ }
+        ensures is { λ r. ⌜ r ≡ add-answer (rows-mean (now (self .entry))) n ⌝ }
+        ensures fits { λ r. ⌜ made r (λ _. Fits (now (self .entry)) n) ⌝ }
     {
         if self.count == self.insts {
             return Err(TableFault::Full(self.insts as u32));
@@ -61,22 +88,55 @@ impl<'a> Rows<'a> {
         Ok(Inst(self.count as u32))
     }
 
-    // An operand that lies in the run of words.
-    fn long_operand(&self, i: usize, place: usize) -> Value
-        requires known { ⌜ i < now self .count ⌝ }
-        requires many { ⌜ 3 < getD (now (now self .rows)) i no-cell .count ⌝ }
-        requires within { ⌜ place < getD (now (now self .rows)) i no-cell .count ⌝ }
-        ensures { λ r. ⌜ r ≡ getD (operands-of (now (now (self .entry) .words)) (getD (now (now (self .entry) .rows)) i no-cell)) place no-value ⌝ }
+    // The next instruction's number, if a copy still has room.
+    fn room_for_copy(&self, inst: Inst) -> Result<Inst, TableFault>
+        ensures is { λ r. ⌜ r ≡ copy-answer (rows-mean (now (self .entry))) inst ⌝ }
+        ensures fits { λ r. ⌜ made r (λ _. FitsCopy (now (self .entry)) (inst .0)) ⌝ }
+    {
+        let i = inst.0 as usize;
+        if i >= self.count {
+            return Err(TableFault::Unknown(inst.0));
+        }
+        let row = self.rows[i];
+        self.room(row.count as usize)
+    }
+
+    fn read(&self, i: usize, place: usize) -> Value
+        requires { ⌜ Placed (now self) i place ⌝ }
+        ensures { λ r. ⌜ r ≡ getD (operandsAt (rows-mean (now (self .entry))) i) place no-value ⌝ }
+    {
+        let row = self.rows[i];
+        if row.count <= 3 {
+            return row.short[place];
+        }
+        self.read_long(i, place)
+    }
+
+    fn read_long(&self, i: usize, place: usize) -> Value
+        requires placed { ⌜ Placed (now self) i place ⌝ }
+        requires many { ⌜ 3 < at (now (now self .rows)) i .count ⌝ }
+        ensures { λ r. ⌜ r ≡ getD (operandsAt (rows-mean (now (self .entry))) i) place no-value ⌝ }
     {
         let row = self.rows[i];
         let start = row.start as usize;
         self.words[start + place]
     }
 
+    fn set(&mut self, i: usize, place: usize, value: Value)
+        requires { ⌜ Placed (now self) i place ⌝ }
+        ensures { λ _. ⌜ rows-mean (now (self .exit)) ≡ with-operand (rows-mean (now (self .entry))) i place value ⌝ }
+    {
+        let row = self.rows[i];
+        if row.count <= 3 {
+            self.set_short(i, place, value);
+        } else {
+            self.set_long(i, place, value);
+        }
+    }
+
     fn set_short(&mut self, i: usize, place: usize, value: Value)
-        requires known { ⌜ i < now self .count ⌝ }
-        requires few { ⌜ getD (now (now self .rows)) i no-cell .count ≤ 3 ⌝ }
-        requires within { ⌜ place < getD (now (now self .rows)) i no-cell .count ⌝ }
+        requires placed { ⌜ Placed (now self) i place ⌝ }
+        requires few { ⌜ at (now (now self .rows)) i .count ≤ 3 ⌝ }
         ensures { λ _. ⌜ rows-mean (now (self .exit)) ≡ with-operand (rows-mean (now (self .entry))) i place value ⌝ }
     {
         let mut row = self.rows[i];
@@ -85,9 +145,8 @@ impl<'a> Rows<'a> {
     }
 
     fn set_long(&mut self, i: usize, place: usize, value: Value)
-        requires known { ⌜ i < now self .count ⌝ }
-        requires many { ⌜ 3 < getD (now (now self .rows)) i no-cell .count ⌝ }
-        requires within { ⌜ place < getD (now (now self .rows)) i no-cell .count ⌝ }
+        requires placed { ⌜ Placed (now self) i place ⌝ }
+        requires many { ⌜ 3 < at (now (now self .rows)) i .count ⌝ }
         ensures { λ _. ⌜ rows-mean (now (self .exit)) ≡ with-operand (rows-mean (now (self .entry))) i place value ⌝ }
     {
         let row = self.rows[i];
@@ -97,10 +156,9 @@ impl<'a> Rows<'a> {
 
     // Adds an instruction whose n operands lie in its row.
     fn push_short(&mut self, opcode: Opcode, n: usize, short: [Value; 3])
-        requires inst { ⌜ now self .count < now self .insts ⌝ }
+        requires fits { ⌜ Fits (now self) n ⌝ }
         requires few { ⌜ n ≤ 3 ⌝ }
         requires whole { ⌜ length (take n short) ≡ n ⌝ }
-        requires words { ⌜ now self .total + n ≤ now self .limit ⌝ }
         ensures { λ _. ⌜ rows-mean (now (self .exit)) ≡ with-row (rows-mean (now (self .entry))) (record { opcode = opcode; operands = take n short }) ⌝ }
     {
         let count = self.count;
@@ -111,9 +169,8 @@ impl<'a> Rows<'a> {
 
     // Adds an instruction whose operands are the n words behind the used ones.
     fn push_long(&mut self, opcode: Opcode, n: usize)
-        requires inst { ⌜ now self .count < now self .insts ⌝ }
+        requires fits { ⌜ Fits (now self) n ⌝ }
         requires many { ⌜ 3 < n ⌝ }
-        requires words { ⌜ now self .total + n ≤ now self .limit ⌝ }
         ensures { λ _. ⌜ rows-mean (now (self .exit)) ≡ with-row (rows-mean (now (self .entry))) (record { opcode = opcode; operands = take n (drop (now (self .entry) .used) (now (now (self .entry) .words))) }) ⌝ }
     {
         let count = self.count;
@@ -157,6 +214,33 @@ impl<'a> Rows<'a> {
             self.put(k, word);
         }
     }
+
+    fn push(&mut self, opcode: Opcode, operands: &[Value])
+        requires { ⌜ Fits (now self) (length (now operands)) ⌝ }
+        ensures { λ _. ⌜ rows-mean (now (self .exit)) ≡ with-row (rows-mean (now (self .entry))) (record { opcode = opcode; operands = now (operands .entry) }) ⌝ }
+    {
+        let n = operands.len();
+        if n <= 3 {
+            self.push_short(opcode, n, short_of(operands));
+        } else {
+            self.write(operands);
+            self.push_long(opcode, n);
+        }
+    }
+
+    fn push_copy(&mut self, i: usize)
+        requires { ⌜ FitsCopy (now self) i ⌝ }
+        ensures { λ _. ⌜ rows-mean (now (self .exit)) ≡ with-row (rows-mean (now (self .entry))) (rowAt (rows-mean (now (self .entry))) i) ⌝ }
+    {
+        let row = self.rows[i];
+        let n = row.count as usize;
+        if n <= 3 {
+            self.push_short(row.opcode, n, row.short);
+        } else {
+            self.repeat(row.start as usize, n);
+            self.push_long(row.opcode, n);
+        }
+    }
 }
 
 pub impl<'a> InstTable for Rows<'a> as RowsTable {
@@ -165,7 +249,7 @@ pub impl<'a> InstTable for Rows<'a> as RowsTable {
     ghost bounded = { rows-bounded };
 
     fn count(&self) -> u32 {
-        self.count as u32
+        self.len() as u32
     }
 
     fn inst_limit(&self) -> u32 {
@@ -191,51 +275,25 @@ pub impl<'a> InstTable for Rows<'a> as RowsTable {
     }
 
     fn operand(&self, inst: Inst, place: u32) -> Result<Value, TableFault> {
-        let row = self.cell(inst)?;
-        if place >= row.count {
-            return Err(TableFault::Unknown(place));
-        }
-        if row.count <= 3 {
-            return Ok(row.short[place as usize]);
-        }
-        Ok(self.long_operand(inst.0 as usize, place as usize))
+        self.judge(inst, place)?;
+        Ok(self.read(inst.0 as usize, place as usize))
     }
 
     fn set_operand(&mut self, inst: Inst, place: u32, value: Value) -> Result<(), TableFault> {
-        let row = self.cell(inst)?;
-        if place >= row.count {
-            return Err(TableFault::Unknown(place));
-        }
-        if row.count <= 3 {
-            self.set_short(inst.0 as usize, place as usize, value);
-        } else {
-            self.set_long(inst.0 as usize, place as usize, value);
-        }
+        self.judge(inst, place)?;
+        self.set(inst.0 as usize, place as usize, value);
         Ok(())
     }
 
     fn add(&mut self, opcode: Opcode, operands: &[Value]) -> Result<Inst, TableFault> {
-        let n = operands.len();
-        let inst = self.room(n)?;
-        if n <= 3 {
-            self.push_short(opcode, n, short_of(operands));
-        } else {
-            self.write(operands);
-            self.push_long(opcode, n);
-        }
+        let inst = self.room(operands.len())?;
+        self.push(opcode, operands);
         Ok(inst)
     }
 
     fn add_copy(&mut self, inst: Inst) -> Result<Inst, TableFault> {
-        let row = self.cell(inst)?;
-        let n = row.count as usize;
-        let copy = self.room(n)?;
-        if n <= 3 {
-            self.push_short(row.opcode, n, row.short);
-        } else {
-            self.repeat(row.start as usize, n);
-            self.push_long(row.opcode, n);
-        }
+        let copy = self.room_for_copy(inst)?;
+        self.push_copy(inst.0 as usize);
         Ok(copy)
     }
 }

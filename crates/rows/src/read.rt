@@ -1,7 +1,9 @@
 ghost use mathlib.Core.Path.{_≡_};
-ghost use Prim.Native.Nat.{_+_, _≤_};
-ghost use lib.ListN.{length, take, drop};
+ghost use Prim.Native.Nat.{_+_, _<_, _≤_};
+ghost use lib.ListN.{length, getD, take, drop};
 ghost use Rattle.std.specs.declared.result.Result.the-variants.{Ok, Err};
+ghost use Rattle.std.specs.Vec.{made};
+ghost use Rattle.table.specs.Table.{no-row};
 ghost use Rattle.rows.specs.Reader.{reader-mean, operands-answer};
 ghost use Rattle.rows.specs.Rows.{rows-mean};
 use crate::reader::RowsReader;
@@ -22,17 +24,32 @@ impl<'a> RowsReader<'a> {
     pub fn operands(&self, inst: Inst) -> Result<&'a [Value], TableFault>
         ensures { λ r. ⌜ elim r [ Ok slice ↦ Ok (now slice) ≡ operands-answer (reader-mean (now (self .entry))) inst | Err fault ↦ Err fault ≡ operands-answer (reader-mean (now (self .entry))) inst ] ⌝ }
     {
+        let i = self.find(inst)?;
+        Ok(self.slice(i))
+    }
+
+    fn find(&self, inst: Inst) -> Result<usize, TableFault>
+        ensures says { λ r. ⌜ elim r [ Ok i ↦ operands-answer (reader-mean (now (self .entry))) inst ≡ Ok (getD (reader-mean (now (self .entry))) i no-row .operands) | Err fault ↦ operands-answer (reader-mean (now (self .entry))) inst ≡ Err fault ] ⌝ }
+        ensures within { λ r. ⌜ made r (λ i. i < now (self .entry) .count) ⌝ }
+    {
         let i = inst.0 as usize;
         if i >= self.count {
             return Err(TableFault::Unknown(inst.0));
         }
+        Ok(i)
+    }
+
+    fn slice(&self, i: usize) -> &'a [Value]
+        requires { ⌜ i < now self .count ⌝ }
+        ensures { λ r. ⌜ now r ≡ getD (reader-mean (now (self .entry))) i no-row .operands ⌝ }
+    {
         let row = &self.rows[i];
         let n = row.count as usize;
         if n <= 3 {
             let short = &row.short[..];
-            return Ok(&short[0..n]);
+            return &short[0..n];
         }
-        Ok(part(self.words, row.start as usize, n))
+        part(self.words, row.start as usize, n)
     }
 }
 

@@ -1,20 +1,16 @@
 use mathlib.Core.Path.{sym, ap, _∙_, subst}
 use Prim.Native.Nat.{ℕ}
-use native.Mathlib.Omega.{arith}
 use lib.ListN.{set, length-set}
 use Rattle.table.proofs.Held.{held}
-use Rattle.table.proofs.Steps.{known}
 use Rattle.chain.specs.Links.{no-cell, link, row-of}
-use Rattle.chain.proofs.Walks.{Sound, set-mean, set-sound}
-use Rattle.chain.proofs.Means.{cells, sound}
+use Rattle.chain.proofs.Walks.{cells, Sound, set-mean, set-sound}
 use Rattle.chain.proofs.store.Chain.set.Needs as need
 
 pub ghost-self : need.ghost-self
 ghost-self c =
     let s = c .args .self .now in
     let ls = s .links .now in
-    let T = subst (λ (m : ℕ). Sound (set ls m (record { value = c .args .value; next = link ls m .next })) (cells s) (s .used)) (sym (c .find-at .ensures .place))
-      (set-sound (s .insts) (s .limit) (s .links .now) (s .rows .now) (s .count) (c .args .i) (c .args .place) (c .args .value) (s .used) (c .pre .known) (omega (arith, s .«rows_room», s .counted)) (sound s) (c .pre .within) (omega (arith, s .«used_some», s .«links_room»))) in
+    let T = subst (λ (m : ℕ). Sound (set ls m (record { value = c .args .value; next = link ls m .next })) (cells s) (s .used)) (sym (c .find-at .ensures .place)) (set-sound s (c .args .i) (c .args .place) (c .args .value) (c .pre)) in
     (s .«rows_room», (simp length-set (s .«links_room»), (s .«insts_small», (s .«limit_small», (s .counted, (s .«used_some», (T .linked, (T .below, (T .apart, (T .sums, tt))))))))))
 
 pub returns : need.returns
@@ -22,4 +18,4 @@ returns c =
     let s = c .args .self .now in
     let ls = s .links .now in
     ap (λ (m : ℕ). held no-cell row-of (s .insts) (s .limit) (set ls m (record { value = c .args .value; next = link ls m .next })) (cells s)) (c .find-at .ensures .place)
-    ∙ set-mean (s .insts) (s .limit) (s .links .now) (s .rows .now) (s .count) (c .args .i) (c .args .place) (c .args .value) (s .used) (c .pre .known) (omega (arith, s .«rows_room», s .counted)) (sound s) (c .pre .within) (omega (arith, s .«used_some», s .«links_room»))
+    ∙ set-mean s (c .args .i) (c .args .place) (c .args .value) (c .pre)
