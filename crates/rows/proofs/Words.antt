@@ -33,9 +33,6 @@ module _ (s : Rows) where
   abbrev pub cells : List RowCell
   cells = take (s .count) (s .rows .now)
 
-  pub sound : Sound (s .words .now) cells (s .used) (s .total)
-  sound = record { full = s .full; below = s .below; apart = s .apart; sums = s .sums }
-
   pub length-cells : length cells ≡ s .count
   length-cells = length-take-le (s .count) (s .rows .now) (omega (arith, s .«rows_room», s .counted))
 

@@ -1,5 +1,5 @@
 -- What a call answers, from what is known of the table, and the other way round.
-use mathlib.Core.Path.{_≡_, ap, _∙_}
+use mathlib.Core.Path.{_≡_, _∙_}
 use mathlib.Core.Bool.{Bool, true, cond}
 use mathlib.Core.Logic.{inl, inr}
 use Prim.Native.Nat.{ℕ, _+_, _<_, _≤_}
@@ -27,24 +27,16 @@ module _ {A : Type 0} (t : Table) (i : Inst) (a : Result A TableFault) where
   pub unplaced : (k : ℕ) → i .0 < count t → length (operands t (i .0)) ≤ k → at-place t i k a ≡ Err (Unknown k)
   unplaced k h j = cond-true _ _ _ (lt-ltb (i .0) (count t) h) ∙ cond-false _ _ _ (le-ltb k (length (operands t (i .0))) j)
 
-module _ {A : Type 0} (b : Bool) (a x : A) (f g : TableFault) where
-  pub taken : Ok x ≡ cond b (Ok a) (Err f) → (b ≡ true) × (x ≡ a)
+module _ {A : Type 0} (b : Bool) (a x : A) (f : TableFault) where
+  taken : Ok x ≡ cond b (Ok a) (Err f) → (b ≡ true) × (x ≡ a)
   taken e = elim (cases-bool b) [
       inl p ↦ let q : Ok x ≡ Ok a = e ∙ cond-true b (Ok a) (Err f) p in let r : x ≡ a = cc in (p, r)
     | inr p ↦ let q : Ok x ≡ Err f = e ∙ cond-false b (Ok a) (Err f) p in let z : _≡_ {A = ℕ} 0 1 = cc in absurd (omega arith) ]
 
--- what a refused read of an instruction says of any other
-pub refused : {A B : Type 0} (t : Table) (i : Inst) (a : A) (b : Result B TableFault) (f : TableFault) → Err f ≡ at-inst t i (Ok a) → at-inst t i b ≡ Err f
-refused t i a b f e = elim (cases-bool (ltb (i .0) (count t))) [
-    inl p ↦ let q : Err f ≡ Ok a = e ∙ cond-true (ltb (i .0) (count t)) (Ok a) (Err (Unknown (i .0))) p in let z : _≡_ {A = ℕ} 0 1 = cc in absurd (omega arith)
-  | inr p ↦
-      let q : Err f ≡ Err (Unknown (i .0)) = e ∙ cond-false (ltb (i .0) (count t)) (Ok a) (Err (Unknown (i .0))) p in
-      let r : Unknown (i .0) ≡ f = cc in
-      cond-false _ _ _ p ∙ ap Err r ]
-
+-- what an accepted read and an accepted addition say, for code over any table
 pub found : {A : Type 0} (t : Table) (i : Inst) (a x : A) → Ok x ≡ at-inst t i (Ok a) → (i .0 < count t) × (x ≡ a)
 found t i a x e =
-    let q = taken (ltb (i .0) (count t)) a x (Unknown (i .0)) (Unknown (i .0)) e in
+    let q = taken (ltb (i .0) (count t)) a x (Unknown (i .0)) e in
     (ltb-true (i .0) (count t) (q .0), q .1)
 
 module _ (t : Table) (n : ℕ) where
@@ -65,7 +57,7 @@ pub record Room (t : Table) (n : ℕ) (i : Inst) : Type 0 where
 pub room : (t : Table) (n : ℕ) (i : Inst) → Ok i ≡ add-answer t n → Room t n i
 room t n i e = elim (cases-bool (ltb (count t) (t .insts))) [
     inl p ↦
-      let q = taken (leb (total (t .rows) + n) (t .words)) (record { 0 = count t }) i (Full (t .words)) (Full (t .words)) (e ∙ cond-true _ _ _ p) in
+      let q = taken (leb (total (t .rows) + n) (t .words)) (record { 0 = count t }) i (Full (t .words)) (e ∙ cond-true _ _ _ p) in
       record { inst = ltb-true (count t) (t .insts) p; words = leb-true (total (t .rows) + n) (t .words) (q .0); number = q .1 }
   | inr p ↦
       let q : Ok i ≡ Err (Full (t .insts)) = e ∙ cond-false (ltb (count t) (t .insts)) _ _ p in
