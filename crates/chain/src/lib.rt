@@ -1,0 +1,3 @@
+pub mod cell;
+pub mod inst_table;
+pub mod store;

@@ -1,0 +1,3 @@
+pub mod Driven
+pub mod Steps
+pub mod Held

@@ -1,0 +1,5 @@
+// Cases of both instruction tables, as tests.
+#[cfg(test)]
+mod calls;
+#[cfg(test)]
+mod tests;
