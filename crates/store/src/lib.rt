@@ -1,0 +1,3 @@
+pub mod parts;
+pub mod sizes;
+pub mod store;
