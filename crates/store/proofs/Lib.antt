@@ -1,0 +1,4 @@
+pub mod Views
+pub mod Items
+pub mod Stores
+pub mod Models

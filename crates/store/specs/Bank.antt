@@ -172,6 +172,7 @@ pub record Sound {T : Type 0} (s : Store T) : Type 0 where
   pub filled : Filled (s .hand) (now (s .heads))
   pub whole : Whole (view s)
   pub room : Room (length (now (s .cells))) (length (now (s .links))) (s .limit) (s .used)
+  pub sized : length (s .sizes .records) ≡ 29
 
 -- what every call keeps: nothing is in hand
 pub record Ready {T : Type 0} (s : Store T) : Type 0 where

@@ -86,9 +86,9 @@ pub record Clash (v : View) : Type 0 where
 abbrev pub Apart : View → Type 0
 Apart v = (c : Clash v) → code (c .one) ≡ code (c .two)
 
--- no list is longer than its block
+-- no list is longer than its block, and what has no block starts at none
 abbrev pub Fits : Head → Type 0
-Fits h = (h .len ≤ 4 * units (h .class)) × (h .class ≤ 29)
+Fits h = (h .len ≤ 4 * units (h .class)) × (h .class ≤ 29) × (h .class ≡ 0 → h .start ≡ 0)
 
 abbrev pub Filled : Head → List Head → Type 0
 Filled hand heads = Fits hand × ((l : ℕ) → Fits (getD heads l no-head))

@@ -1,0 +1,90 @@
+-- What holds of a sound store.
+use mathlib.Core.Path.{_≡_, refl, sym, ap, subst, _∙_}
+use mathlib.Core.List.{List, [], _∷_, map}
+use mathlib.Core.Logic.{inl, inr}
+use Prim.Native.Nat.{ℕ, zero, suc, _+_, _*_, _^_, _≤_, _<_}
+use native.Mathlib.Omega.{arith}
+use lib.ListN.{length, getD}
+use Rattle.std.proofs.shelf.Lists.{length-map}
+use Rattle.std.proofs.shelf.Tests.{cases-lt}
+use Rattle.store.specs.declared.parts.Head.{Head}
+use Rattle.store.specs.declared.store.Store.{Store}
+use denote.Ref.{now}
+use Rattle.store.specs.declared.sizes.SizeRecord.{SizeRecord}
+use Rattle.store.specs.Units.{no-head, no-record, units, Apart, Filled, Whole, Room}
+use Rattle.store.specs.Bank.{Sound, view, owned, nothing, bank}
+use Rattle.store.specs.Held.{Held, held}
+use Rattle.store.proofs.Views.{listed-below, hand-below, units-pos, none-units}
+use Rattle.store.proofs.Items.{list-at, owned-length, owned-item, empty-owned}
+
+pub same-held : {T : Type 0} {a b : Held T} → a .hand ≡ b .hand → a .lists ≡ b .lists → a .free ≡ b .free → a .left ≡ b .left → a ≡ b
+same-held p q r s = λ i. record { hand = p i; lists = q i; free = r i; left = s i }
+
+pub sounds : {T : Type 0} {s : Store T} → Apart (view s) → Filled (s .hand) (now (s .heads)) → Whole (view s)
+    → Room (length (now (s .cells))) (length (now (s .links))) (s .limit) (s .used) → length (s .sizes .records) ≡ 29 → Sound s
+sounds a f w r n = record { apart = a; filled = f; whole = w; room = r; sized = n }
+
+pub count-at : (rs : List SizeRecord) (k : ℕ) → getD (map (λ x. x .count) rs) k 0 ≡ getD rs k no-record .count
+count-at [] k = refl
+count-at (c ∷ cs) zero = refl
+count-at (c ∷ cs) (suc k) = count-at cs k
+
+module _ {T : Type 0} (s : Store T) (ok : Sound s) where
+  -- the block in hand lies within the cells
+  pub hand-in : (4 * s .hand .start + 4 * units (s .hand .class) ≤ length (s .cells .now)) × (4 * s .hand .start + 4 * units (s .hand .class) ≤ 2 ^ 30)
+  hand-in =
+      elim (cases-lt 0 (s .hand .class)) [
+        inl p ↦ let u = units-pos (s .hand .class) p in let b = hand-below (view s) (ok .apart) u in (omega arith, omega arith)
+      | inr z ↦
+          let c : s .hand .class ≡ 0 = omega arith in
+          let u = ap units c ∙ none-units in
+          let t = ok .filled .0 .2 c in
+          (omega arith, omega arith) ]
+
+  pub hand-long : length (held s .hand .items) ≡ s .hand .len
+  unfolding held
+  hand-long = let b = hand-in .0 in owned-length (s .cells .now) (s .hand) (omega arith)
+
+  pub lists-many : length (held s .lists) ≡ length (s .heads .now)
+  unfolding held
+  lists-many = length-map (s .heads .now) _
+
+  pub list-is : (l : ℕ) → getD (held s .lists) l nothing ≡ owned (s .cells .now) (getD (s .heads .now) l no-head)
+  unfolding held
+  list-is l = list-at (s .cells .now) (s .heads .now) l
+
+  pub class-is : (l : ℕ) → getD (held s .lists) l nothing .class ≡ getD (s .heads .now) l no-head .class
+  unfolding owned
+  class-is l = ap (λ o. o .class) (list-is l)
+
+  pub hand-class : held s .hand .class ≡ s .hand .class
+  unfolding held owned
+  hand-class = refl
+
+  -- a list lies within the cells
+  pub list-in : (l : ℕ)
+      → (4 * getD (s .heads .now) l no-head .start + getD (s .heads .now) l no-head .len ≤ length (s .cells .now)) × (4 * getD (s .heads .now) l no-head .start + getD (s .heads .now) l no-head .len ≤ 2 ^ 30)
+  list-in l =
+      let f = ok .filled .1 l in
+      elim (cases-lt 0 (getD (s .heads .now) l no-head .class)) [
+        inl p ↦
+          let u = units-pos (getD (s .heads .now) l no-head .class) p in
+          let b = listed-below (view s) (ok .apart) l u in
+          (omega arith, omega arith)
+      | inr z ↦
+          let c : getD (s .heads .now) l no-head .class ≡ 0 = omega arith in
+          let u = ap units c ∙ none-units in
+          let t = f .2 c in
+          (omega arith, omega arith) ]
+
+  pub list-long : (l : ℕ) → length (getD (held s .lists) l nothing .items) ≡ getD (s .heads .now) l no-head .len
+  list-long l =
+      ap (λ o. length (o .items)) (list-is l) ∙ owned-length (s .cells .now) (getD (s .heads .now) l no-head) (list-in l .0)
+
+  pub free-is : (k : ℕ) → getD (held s .free) k 0 ≡ getD (s .sizes .records) k no-record .count
+  unfolding held
+  free-is k = count-at (s .sizes .records) k
+
+  pub nothing-in-hand : s .hand .class ≡ 0 → held s .hand ≡ nothing
+  unfolding held
+  nothing-in-hand e = empty-owned (s .cells .now) (s .hand) (ok .filled .0) e
