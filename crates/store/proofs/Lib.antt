@@ -2,3 +2,4 @@ pub mod Views
 pub mod Items
 pub mod Stores
 pub mod Models
+pub mod Acts

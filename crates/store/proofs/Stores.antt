@@ -2,19 +2,19 @@
 use mathlib.Core.Path.{_≡_, refl, sym, ap, subst, _∙_}
 use mathlib.Core.List.{List, [], _∷_, map}
 use mathlib.Core.Logic.{inl, inr}
-use Prim.Native.Nat.{ℕ, zero, suc, _+_, _*_, _^_, _≤_, _<_}
+use Prim.Native.Nat.{ℕ, zero, suc, _+_, _-_, _*_, _^_, _≤_, _<_}
 use native.Mathlib.Omega.{arith}
-use lib.ListN.{length, getD}
+use lib.ListN.{length, getD, replicate}
 use Rattle.std.proofs.shelf.Lists.{length-map}
 use Rattle.std.proofs.shelf.Tests.{cases-lt}
 use Rattle.store.specs.declared.parts.Head.{Head}
 use Rattle.store.specs.declared.store.Store.{Store}
 use denote.Ref.{now}
 use Rattle.store.specs.declared.sizes.SizeRecord.{SizeRecord}
-use Rattle.store.specs.Units.{no-head, no-record, units, Apart, Filled, Whole, Room}
-use Rattle.store.specs.Bank.{Sound, view, owned, nothing, bank}
-use Rattle.store.specs.Held.{Held, held}
-use Rattle.store.proofs.Views.{listed-below, hand-below, units-pos, none-units}
+use Rattle.store.specs.Units.{no-head, no-record, units, View, Apart, Filled, Whole, Room}
+use Rattle.store.specs.Bank.{Sound, Ready, view, owned, nothing, bank, class-of, items-of, stock}
+use Rattle.store.specs.Held.{Held, held, shown}
+use Rattle.store.proofs.Views.{listed-below, hand-below, units-pos, none-units, start, start-apart, start-filled, start-whole}
 use Rattle.store.proofs.Items.{list-at, owned-length, owned-item, empty-owned}
 
 pub same-held : {T : Type 0} {a b : Held T} → a .hand ≡ b .hand → a .lists ≡ b .lists → a .free ≡ b .free → a .left ≡ b .left → a ≡ b
@@ -88,3 +88,48 @@ module _ {T : Type 0} (s : Store T) (ok : Sound s) where
   pub nothing-in-hand : s .hand .class ≡ 0 → held s .hand ≡ nothing
   unfolding held
   nothing-in-hand e = empty-owned (s .cells .now) (s .hand) (ok .filled .0) e
+
+  pub class-of-is : (l : ℕ) → class-of (bank s) l ≡ getD (s .heads .now) l no-head .class
+  unfolding bank held
+  class-of-is l = class-is l
+
+  pub len-is : (l : ℕ) → length (items-of (bank s) l) ≡ getD (s .heads .now) l no-head .len
+  unfolding bank held
+  len-is l = list-long l
+
+pub bank-is : {T : Type 0} (s : Store T) → bank s ≡ shown (held s)
+unfolding bank held
+bank-is s = refl
+
+pub many : {T : Type 0} (s : Store T) → length (bank s .lists) ≡ length (s .heads .now)
+unfolding bank
+many s = length-map (s .heads .now) _
+
+-- what can be had of a store, by its counts
+pub store-stock : {T : Type 0} (s : Store T) → (bank s .free ≡ stock (s .sizes) (s .limit - s .used) .free) × (bank s .left ≡ stock (s .sizes) (s .limit - s .used) .left)
+unfolding bank
+store-stock s = (refl, refl)
+
+pub free-many : {T : Type 0} (s : Store T) → Sound s → length (bank s .free) ≡ 29
+unfolding bank
+free-many s ok = length-map (s .sizes .records) _ ∙ ok .sized
+
+pub start-lists : {T : Type 0} (cells : List T) (n : ℕ) → map (owned cells) (replicate n no-head) ≡ replicate n nothing
+unfolding owned
+start-lists cells zero = refl
+start-lists cells (suc n) = ap (λ xs. nothing ∷ xs) (start-lists cells n)
+
+-- a new store
+pub opened-ready : {T : Type 0} {s : Store T} (n : ℕ) → s .heads .now ≡ replicate n no-head → s .sizes .records ≡ replicate 29 no-record → s .hand ≡ no-head → s .used ≡ 0
+    → Room (length (s .cells .now)) (length (s .links .now)) (s .limit) (s .used) → Ready s
+opened-ready {s = s} n hs rs h u r =
+    let v : view s ≡ start n 29 (s .links .now) = (λ i. record { hand = h i; heads = hs i; links = s .links .now; sizes = rs i; used = u i }) in
+    let f : Filled (s .hand) (s .heads .now) = subst (λ (w : View). Filled (w .hand) (w .heads)) (sym v) (start-filled n) in
+    record {
+      sound = record {
+        apart = subst Apart (sym v) (start-apart n 29 (s .links .now));
+        filled = f;
+        whole = subst Whole (sym v) (start-whole n 29 (s .links .now));
+        room = r;
+        sized = ap length rs };
+      empty = ap (λ x. x .class) h }

@@ -12,6 +12,7 @@ use Rattle.std.specs.declared.option.Option.the-variants.{Some, None}
 use Rattle.store.specs.declared.parts.Head.{Head}
 use Rattle.store.specs.declared.parts.PoolFault.{PoolFault}
 use Rattle.store.specs.declared.parts.PoolFault.the-variants.{Unknown, NoBlock}
+use Rattle.store.specs.declared.sizes.SizeTable.{SizeTable}
 use Rattle.store.specs.declared.store.Store.{Store}
 use Rattle.store.specs.Faults.{before}
 use Rattle.store.specs.Units.{View, units, smallest, Apart, Filled, Whole, Room}
@@ -161,6 +162,10 @@ bank s =
       lists = map (owned (now (s .cells))) (now (s .heads));
       free = map (λ r. r .count) (s .sizes .records);
       left = s .limit - s .used }
+
+-- what there is to have of, for any lists
+abbrev pub stock : SizeTable → ℕ → Bank ℕ
+stock t left = record { lists = []; free = map (λ r. r .count) (t .records); left = left }
 
 abbrev pub view : {T : Type 0} → Store T → View
 view s =
