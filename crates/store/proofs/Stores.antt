@@ -21,8 +21,8 @@ pub same-held : {T : Type 0} {a b : Held T} → a .hand ≡ b .hand → a .lists
 same-held p q r s = λ i. record { hand = p i; lists = q i; free = r i; left = s i }
 
 pub sounds : {T : Type 0} {s : Store T} → Apart (view s) → Filled (s .hand) (now (s .heads)) → Whole (view s)
-    → Room (length (now (s .cells))) (length (now (s .links))) (s .limit) (s .used) → length (s .sizes .records) ≡ 29 → Sound s
-sounds a f w r n = record { apart = a; filled = f; whole = w; room = r; sized = n }
+    → Room (length (now (s .cells))) (length (now (s .links))) (length (s .sizes .records)) (s .limit) (s .used) → Sound s
+sounds a f w r = record { apart = a; filled = f; whole = w; room = r }
 
 pub count-at : (rs : List SizeRecord) (k : ℕ) → getD (map (λ x. x .count) rs) k 0 ≡ getD rs k no-record .count
 count-at [] k = refl
@@ -38,7 +38,6 @@ module _ {T : Type 0} (s : Store T) (ok : Sound s) where
       | inr z ↦
           let c : s .hand .class ≡ 0 = omega arith in
           let u = ap units c ∙ none-units in
-          let t = ok .filled .0 .2 c in
           (omega arith, omega arith) ]
 
   pub hand-long : length (held s .hand .items) ≡ s .hand .len
@@ -74,7 +73,6 @@ module _ {T : Type 0} (s : Store T) (ok : Sound s) where
       | inr z ↦
           let c : getD (s .heads .now) l no-head .class ≡ 0 = omega arith in
           let u = ap units c ∙ none-units in
-          let t = f .2 c in
           (omega arith, omega arith) ]
 
   pub list-long : (l : ℕ) → length (getD (held s .lists) l nothing .items) ≡ getD (s .heads .now) l no-head .len
@@ -112,7 +110,7 @@ store-stock s = (refl, refl)
 
 pub free-many : {T : Type 0} (s : Store T) → Sound s → length (bank s .free) ≡ 29
 unfolding bank
-free-many s ok = length-map (s .sizes .records) _ ∙ ok .sized
+free-many s ok = length-map (s .sizes .records) _ ∙ ok .room .4
 
 pub start-lists : {T : Type 0} (cells : List T) (n : ℕ) → map (owned cells) (replicate n no-head) ≡ replicate n nothing
 unfolding owned
@@ -121,7 +119,7 @@ start-lists cells (suc n) = ap (λ xs. nothing ∷ xs) (start-lists cells n)
 
 -- a new store
 pub opened-ready : {T : Type 0} {s : Store T} (n : ℕ) → s .heads .now ≡ replicate n no-head → s .sizes .records ≡ replicate 29 no-record → s .hand ≡ no-head → s .used ≡ 0
-    → Room (length (s .cells .now)) (length (s .links .now)) (s .limit) (s .used) → Ready s
+    → Room (length (s .cells .now)) (length (s .links .now)) (length (s .sizes .records)) (s .limit) (s .used) → Ready s
 opened-ready {s = s} n hs rs h u r =
     let v : view s ≡ start n 29 (s .links .now) = (λ i. record { hand = h i; heads = hs i; links = s .links .now; sizes = rs i; used = u i }) in
     let f : Filled (s .hand) (s .heads .now) = subst (λ (w : View). Filled (w .hand) (w .heads)) (sym v) (start-filled n) in
@@ -130,6 +128,5 @@ opened-ready {s = s} n hs rs h u r =
         apart = subst Apart (sym v) (start-apart n 29 (s .links .now));
         filled = f;
         whole = subst Whole (sym v) (start-whole n 29 (s .links .now));
-        room = r;
-        sized = ap length rs };
+        room = r };
       empty = ap (λ x. x .class) h }

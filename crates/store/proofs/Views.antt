@@ -418,7 +418,7 @@ pub start-apart : (n m : ℕ) (links : List ℕ) → Apart (start n m links)
 start-apart n m links c = ap code (start-owner n m links (c .one) (c .unit) (c .by-one) ∙ sym (start-owner n m links (c .two) (c .unit) (c .by-two)))
 
 pub start-filled : (n : ℕ) → Filled no-head (replicate n no-head)
-start-filled n = let f : Fits no-head = (omega arith, omega arith, λ e. refl) in (f, λ l. subst Fits (sym (rep-at n l no-head)) f)
+start-filled n = let f : Fits no-head = (omega arith, omega arith, omega arith) in (f, λ l. subst Fits (sym (rep-at n l no-head)) f)
 
 zero-freed : (k n : ℕ) → freed-units k (replicate n 0) ≡ 0
 unfolding freed-units

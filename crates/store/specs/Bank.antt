@@ -176,10 +176,15 @@ pub record Sound {T : Type 0} (s : Store T) : Type 0 where
   pub apart : Apart (view s)
   pub filled : Filled (s .hand) (now (s .heads))
   pub whole : Whole (view s)
-  pub room : Room (length (now (s .cells))) (length (now (s .links))) (s .limit) (s .used)
-  pub sized : length (s .sizes .records) ≡ 29
+  pub room : Room (length (now (s .cells))) (length (now (s .links))) (length (s .sizes .records)) (s .limit) (s .used)
 
 -- what every call keeps: nothing is in hand
 pub record Ready {T : Type 0} (s : Store T) : Type 0 where
   pub sound : Sound s
   pub empty : s .hand .class ≡ 0
+
+-- the same as a ghost field can hold it
+abbrev pub Settled : {T : Type 0} → Store T → Type 0
+Settled s =
+    Apart (view s) × Filled (s .hand) (now (s .heads)) × Whole (view s)
+    × Room (length (now (s .cells))) (length (now (s .links))) (length (s .sizes .records)) (s .limit) (s .used) × (s .hand .class ≡ 0)

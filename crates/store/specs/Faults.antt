@@ -1,6 +1,7 @@
--- The refusals of a pool, by number and detail. Their layer is the pool.
-use mathlib.Core.Bool.{Bool, cond}
+-- The refusals of a pool, by number, layer and detail.
+use mathlib.Core.List.{List}
 use Prim.Native.Nat.{ℕ}
+use lib.Chars.{codes}
 use Rattle.std.specs.declared.option.Option.{Option}
 use Rattle.std.specs.declared.option.Option.the-variants.{Some, None}
 use Rattle.std.specs.declared.result.Result.{Result}
@@ -15,6 +16,11 @@ number (NoBlock n) = 14
 abbrev pub detail : PoolFault → ℕ
 detail (Unknown n) = n
 detail (NoBlock n) = n
+
+-- the layer's name, as text
+abbrev pub layer : PoolFault → List ℕ
+layer (Unknown n) = codes "pool"
+layer (NoBlock n) = codes "pool"
 
 -- what a call answers that is refused so, or not at all
 abbrev pub judged : Option PoolFault → Result (Unit {0}) PoolFault

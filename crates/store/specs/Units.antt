@@ -86,9 +86,9 @@ pub record Clash (v : View) : Type 0 where
 abbrev pub Apart : View → Type 0
 Apart v = (c : Clash v) → code (c .one) ≡ code (c .two)
 
--- no list is longer than its block, and what has no block starts at none
+-- no list is longer than its block, of which there are 29 classes, and what has no block starts at 0
 abbrev pub Fits : Head → Type 0
-Fits h = (h .len ≤ 4 * units (h .class)) × (h .class ≤ 29) × (h .class ≡ 0 → h .start ≡ 0)
+Fits h = (h .len ≤ 4 * units (h .class)) × (h .class ≤ 29) × (h .start ≤ 2 ^ 28 * h .class)
 
 abbrev pub Filled : Head → List Head → Type 0
 Filled hand heads = Fits hand × ((l : ℕ) → Fits (getD heads l no-head))
@@ -103,5 +103,6 @@ abbrev pub Whole : View → Type 0
 Whole v =
     sumBy (λ h. units (h .class)) (v .heads) + (units (v .hand .class) + freed-units 0 (map (λ r. r .count) (v .sizes))) ≡ v .used
 
-abbrev pub Room : ℕ → ℕ → ℕ → ℕ → Type 0
-Room cells links limit used = (4 * limit ≤ cells) × (limit ≤ links) × (limit ≤ 2 ^ 28) × (used ≤ limit)
+-- the usable units lie within cells and chain words, the used ones within them, and each size has its record
+abbrev pub Room : ℕ → ℕ → ℕ → ℕ → ℕ → Type 0
+Room cells links sizes limit used = (4 * limit ≤ cells) × (limit ≤ links) × (limit ≤ 2 ^ 28) × (used ≤ limit) × (sizes ≡ 29)

@@ -1,4 +1,5 @@
 pub mod calls;
+pub mod faults;
 pub mod parts;
 pub mod sizes;
 pub mod store;

@@ -45,7 +45,7 @@ returns g c =
         (resize-apart (view s) (s .hand .len + 1) (ok .apart))
         ((omega arith, ok .filled .0 .1, ok .filled .0 .2), ok .filled .1)
         (ok .whole)
-        (omega arith, ok .room .1, ok .room .2, ok .room .3) (ok .sized);
+        (omega arith, ok .room .1, ok .room .2, ok .room .3, ok .room .4);
       holds = same-held
         (ap (λ ys. owned ys (record { start = s .hand .start; len = s .hand .len + 1; class = s .hand .class })) e ∙ append-hand (s .cells .now) (s .hand) (c .args .v) (omega arith))
         (ap (λ ys. map (owned ys) (s .heads .now)) e ∙ lists-kept-one (s .cells .now) (c .args .v) (view s) (s .hand .len) (ok .apart) (ok .filled) r (omega arith))

@@ -46,7 +46,7 @@ returns g c =
         (resize-apart (view s) (x .len) (ok .apart))
         ((omega arith, ok .filled .0 .1, ok .filled .0 .2), ok .filled .1)
         (ok .whole)
-        (omega arith, ok .room .1, ok .room .2, ok .room .3) (ok .sized);
+        (omega arith, ok .room .1, ok .room .2, ok .room .3, ok .room .4);
       holds = same-held
         (ap (λ ys. owned ys (record { start = s .hand .start; len = x .len; class = s .hand .class })) e
           ∙ (load-hand (s .cells .now) (drop (4 * x .start) (s .cells .now)) (s .hand .start) (x .len) (s .hand .class) (omega arith) (omega arith)

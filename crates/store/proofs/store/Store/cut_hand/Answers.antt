@@ -19,7 +19,7 @@ returns g c =
     let ok = c .pre .sound in
     let b = hand-in s ok in
     record {
-      sound = sounds (resize-apart (view s) (s .hand .len - 1) (ok .apart)) ((omega arith, ok .filled .0 .1, ok .filled .0 .2), ok .filled .1) (ok .whole) (ok .room) (ok .sized);
+      sound = sounds (resize-apart (view s) (s .hand .len - 1) (ok .apart)) ((omega arith, ok .filled .0 .1, ok .filled .0 .2), ok .filled .1) (ok .whole) (ok .room);
       holds = same-held (cut-hand (s .cells .now) (s .hand) (omega arith)) refl refl refl }
 
 pub sub-self : need.sub-self

@@ -18,7 +18,6 @@ pub push-next-requires : need.push-next-requires
 push-next-requires g c κs =
     let s = c .args .self .now in
     let ok = c .pre .sound in
-    let z = c .pre .sound .sized in
     let k : c .args .self .now .hand .class - 1 < length (c .args .self .now .sizes .records) = omega arith in
     let n = count-below (view s) (s .hand .class - 1) k (ok .whole) in
     record { within = omega arith; few = omega arith }
@@ -37,7 +36,6 @@ returns g c =
     let v = view s in
     let ok = c .pre .sound in
     let j = s .hand .class - 1 in
-    let z = c .pre .sound .sized in
     let k : c .args .self .now .hand .class - 1 < length (c .args .self .now .sizes .records) = omega arith in
     let u = units-size (s .hand .class) (c .pre .some) in
     let p = units-pos (s .hand .class) (c .pre .some) in
@@ -47,10 +45,9 @@ returns g c =
     record {
       sound = sounds
         (subst Apart (sym w) (release-apart v (s .hand .class - 1) (ok .apart) u k l))
-        ((omega arith, omega arith, λ z. refl), ok .filled .1)
+        ((omega arith, omega arith, omega arith), ok .filled .1)
         (subst Whole (sym w) (release-whole v (s .hand .class - 1) (ok .apart) u k l (ok .whole)))
-        (ok .room .0, simp length-set (ok .room .1), ok .room .2, ok .room .3)
-        (ap length (c .push-next .ensures .after) ∙ (length-set _ _ _ ∙ ok .sized));
+        (ok .room .0, simp length-set (ok .room .1), ok .room .2, ok .room .3, ap length (c .push-next .ensures .after) ∙ (length-set _ _ _ ∙ ok .room .4));
       holds = same-held refl refl
         (ap (map (λ x. x .count)) (c .push-next .ensures .after)
           ∙ (map-set (λ x. x .count) (s .sizes .records) (s .hand .class - 1) (record { first = s .hand .start; count = getD (s .sizes .records) (s .hand .class - 1) no-record .count + 1 })

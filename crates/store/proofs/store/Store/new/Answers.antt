@@ -19,7 +19,7 @@ returns g c =
     let len : length (take (c .min-lists .result - 0) (c .args .heads .now)) ≡ min (length (c .args .heads .now)) 4294967296 = simp length-take (omega arith) in
     let hs = c .wipe .ensures ∙ ap (λ j. replicate j no-head) len in
     record {
-      ready = opened-ready (min (length (c .args .heads .now)) 4294967296) hs (c .new .ensures) refl refl (omega arith, omega arith, omega arith, omega arith);
+      ready = opened-ready (min (length (c .args .heads .now)) 4294967296) hs (c .new .ensures) refl refl (omega arith, omega arith, omega arith, omega arith, ap length (c .new .ensures));
       holds = same-bank
         (ap (map (owned (c .args .cells .now))) hs ∙ start-lists (c .args .cells .now) (min (length (c .args .heads .now)) 4294967296))
         (ap (map (λ x. x .count)) (c .new .ensures))

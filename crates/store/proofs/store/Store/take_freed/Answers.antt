@@ -28,18 +28,18 @@ returns g c =
     let v = view s in
     let ok = c .pre .sound in
     let j = c .args .k in
-    let z = c .pre .sound .sized in
     let k : c .args .k < length (c .args .self .now .sizes .records) = omega arith in
     let w = is-reused v j (c .record-of-block .result .first) (c .pop .last .self .records) (ap (λ r. r .first) (c .record-of-block .ensures)) (c .pop .ensures) in
     let n : 0 < getD (map (λ x. x .count) (c .args .self .now .sizes .records)) (c .args .k) 0 = omega (arith, count-at (s .sizes .records) j) in
+    let b = first-below (view s) (ok .apart) j (c .pre .some) in
+    let f = ap (λ r. r .first) (c .record-of-block .ensures) in
     let o = obtained-freed (shown (held s)) j n in
     record {
       sound = sounds
         (subst Apart (sym w) (reuse-apart v j (c .pre .some) k (ok .apart)))
-        ((omega arith, omega arith, λ z. absurd (omega arith)), ok .filled .1)
+        ((omega arith, omega arith, omega arith), ok .filled .1)
         (subst Whole (sym w) (reuse-whole v j (c .pre .some) k (c .pre .empty) (ok .whole)))
-        (ok .room)
-        (ap length (c .pop .ensures) ∙ (length-set _ _ _ ∙ ok .sized));
+        (ok .room .0, ok .room .1, ok .room .2, ok .room .3, ap length (c .pop .ensures) ∙ (length-set _ _ _ ∙ ok .room .4));
       holds = same-held refl refl
         (ap (map (λ x. x .count)) (c .pop .ensures)
           ∙ (map-set (λ x. x .count) (s .sizes .records) j (record { first = getD (s .links .now) (c .record-of-block .result .first) 0; count = getD (s .sizes .records) j no-record .count - 1 })

@@ -35,7 +35,7 @@ returns g c =
     record {
       sound = sounds
         (subst Apart (sym w) (break-apart v j (ok .apart)))
-        ((omega arith, omega arith, λ z. absurd (omega arith)), ok .filled .1)
+        ((omega arith, omega arith, omega arith), ok .filled .1)
         (subst Whole (sym w) (break-whole v j (c .pre .empty) (ok .whole)))
-        (ok .room .0, ok .room .1, ok .room .2, omega arith) (ok .sized);
+        (ok .room .0, ok .room .1, ok .room .2, omega arith, ok .room .4);
       holds = same-held refl refl (sym (ap (λ b. b .free) o)) (d ∙ sym (ap (λ b. b .left) o)) }

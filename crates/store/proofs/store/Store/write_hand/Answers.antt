@@ -40,7 +40,7 @@ returns g c =
     let e = c .put .ensures in
     let k = ap length e ∙ length-set (s .cells .now) (4 * s .hand .start + c .args .i) (c .args .v) in
     record {
-      sound = sounds (ok .apart) (ok .filled) (ok .whole) (omega arith, ok .room .1, ok .room .2, ok .room .3) (ok .sized);
+      sound = sounds (ok .apart) (ok .filled) (ok .whole) (omega arith, ok .room .1, ok .room .2, ok .room .3, ok .room .4);
       holds = same-held
         (ap (λ ys. owned ys (s .hand)) e ∙ write-hand (s .cells .now) (s .hand) (c .args .i) (c .args .v) r)
         (ap (λ ys. map (owned ys) (s .heads .now)) e ∙ lists-kept-one (s .cells .now) (c .args .v) (view s) (c .args .i) (ok .apart) (ok .filled) (omega arith) (omega arith))
