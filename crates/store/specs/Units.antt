@@ -86,6 +86,10 @@ pub record Clash (v : View) : Type 0 where
 abbrev pub Apart : View → Type 0
 Apart v = (c : Clash v) → code (c .one) ≡ code (c .two)
 
+-- the same, of two owners by themselves
+abbrev pub One-owner : View → Type 0
+One-owner v = (one two : Owner) (unit : ℕ) → Owns v one unit → Owns v two unit → one ≡ two
+
 -- no list is longer than its block, of which there are 29 classes, and what has no block starts at 0
 abbrev pub Fits : Head → Type 0
 Fits h = (h .len ≤ 4 * units (h .class)) × (h .class ≤ 29) × (h .start ≤ 2 ^ 28 * h .class)

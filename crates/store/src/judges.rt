@@ -3,7 +3,8 @@
 ghost use mathlib.Core.Path.{_≡_};
 ghost use Prim.Native.Nat.{ℕ, _+_, _-_, _*_, _^_, _<_, _≤_};
 ghost use lib.ListN.{length};
-ghost use Rattle.store.specs.Bank.{Ready, bank, fault-at, fault-block, fault-copy, fault-for, fault-list, fault-push, fault-write, items-of, roomy};
+ghost use Rattle.store.specs.Bank.{Ready, bank, class-of, fault-at, fault-block, fault-copy, fault-for, fault-list, fault-push, fault-write, items-of, listed-units, roomy, view};
+ghost use Rattle.store.specs.Units.{One-owner, freed-units, units};
 ghost use Rattle.store.specs.Faults.{judged};
 use crate::classes::class_for;
 use crate::classes::units_of;
@@ -19,6 +20,16 @@ impl<'a, T: Copy> Store<'a, T> {
         ensures { λ r. ⌜ r ≡ length (bank (now (self .entry)) .lists) ⌝ }
     {
         self.heads.len()
+    }
+
+    // The usable cells. Blocks of lists, freed blocks and untouched cells make them up, and no four cells have two owners.
+    pub fn usable_cells(&self) -> u32
+        requires ready { ⌜ Ready (now self) ⌝ }
+        ensures whole { λ r. ⌜ r ≡ 4 * (listed-units (bank (now (self .entry))) + (freed-units 0 (bank (now (self .entry)) .free) + bank (now (self .entry)) .left)) ⌝ }
+        ensures apart { λ _. ⌜ One-owner (view (now (self .entry))) ⌝ }
+        ensures fits { λ _. ⌜ ((l : ℕ) → length (items-of (bank (now (self .entry))) l) ≤ 4 * units (class-of (bank (now (self .entry))) l)) ⌝ }
+    {
+        4 * self.limit
     }
 
     // How many items a list has.
