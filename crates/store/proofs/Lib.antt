@@ -3,3 +3,4 @@ pub mod Items
 pub mod Stores
 pub mod Models
 pub mod Acts
+pub mod Sums

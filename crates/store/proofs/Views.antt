@@ -92,18 +92,20 @@ freed-set k (n ∷ ns) (suc i) m h =
     let r = freed-set (suc k) ns i m (omega arith) in
     rw e (omega arith)
 
+pub freed-at : (ns : List ℕ) (i m : ℕ) → i < length ns → freed-units 0 (set ns i m) + getD ns i 0 * 2 ^ i ≡ freed-units 0 ns + m * 2 ^ i
+freed-at ns i m h =
+    let e : 0 + i ≡ i = omega arith in
+    subst (λ z. freed-units 0 (set ns i m) + getD ns i 0 * 2 ^ z ≡ freed-units 0 ns + m * 2 ^ z) e (freed-set 0 ns i m h)
+
 pub count-freed : (rs : List SizeRecord) (k : ℕ) (r : SizeRecord) → k < length rs
     → freed-units 0 (map (λ x. x .count) (set rs k r)) + getD rs k no-record .count * 2 ^ k ≡ freed-units 0 (map (λ x. x .count) rs) + r .count * 2 ^ k
 count-freed rs k r h =
-    let e : 0 + k ≡ k = omega arith in
-    let c : List ℕ = map (λ x. x .count) rs in
     let n : k < length (map (λ (x : SizeRecord). x .count) rs) = simp length-map h in
-    let f = freed-set 0 (map (λ x. x .count) rs) k (r .count) n in
+    let f = freed-at (map (λ x. x .count) rs) k (r .count) n in
     let g = getD-map (λ (x : SizeRecord). x .count) rs k no-record 0 h in
     let s = map-set (λ (x : SizeRecord). x .count) rs k r in
     subst (λ ys. freed-units 0 ys + getD rs k no-record .count * 2 ^ k ≡ freed-units 0 (map (λ x. x .count) rs) + r .count * 2 ^ k) (sym s)
-    (subst (λ z. freed-units 0 (set (map (λ x. x .count) rs) k (r .count)) + z * 2 ^ k ≡ freed-units 0 (map (λ x. x .count) rs) + r .count * 2 ^ k) g
-    (subst (λ z. freed-units 0 (set (map (λ x. x .count) rs) k (r .count)) + getD (map (λ x. x .count) rs) k 0 * 2 ^ z ≡ freed-units 0 (map (λ x. x .count) rs) + r .count * 2 ^ z) e f))
+    (subst (λ z. freed-units 0 (set (map (λ x. x .count) rs) k (r .count)) + z * 2 ^ k ≡ freed-units 0 (map (λ x. x .count) rs) + r .count * 2 ^ k) g f)
 
 pub swap-whole : (v : View) (l : ℕ) → l < length (v .heads) → Whole v → Whole (swapped v l)
 swap-whole v l h n =
@@ -420,7 +422,7 @@ start-apart n m links c = ap code (start-owner n m links (c .one) (c .unit) (c .
 pub start-filled : (n : ℕ) → Filled no-head (replicate n no-head)
 start-filled n = let f : Fits no-head = (omega arith, omega arith, omega arith) in (f, λ l. subst Fits (sym (rep-at n l no-head)) f)
 
-zero-freed : (k n : ℕ) → freed-units k (replicate n 0) ≡ 0
+pub zero-freed : (k n : ℕ) → freed-units k (replicate n 0) ≡ 0
 unfolding freed-units
 zero-freed k zero = refl
 zero-freed k (suc n) = omega (arith, zero-freed (suc k) n)
