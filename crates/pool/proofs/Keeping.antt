@@ -21,59 +21,11 @@ use Rattle.store.specs.Units.{Smallest, smallest, units}
 use Rattle.store.specs.Bank.{Bank, Owned, nothing, items-of, class-of, fresh, roomy, obtainable, obtained, cleared, holding, written, grown, pushed, changed, shortened, removed-at, swapped-out, swap-removed-at}
 use Rattle.store.proofs.Models.{push-known, push-grows, none-block, known-list, known-at, write-known, write-block, copy-known, copy-write}
 use Rattle.store.proofs.Acts.{obtained-lists, pushed-within, pushed-grown, shortened-none, shortened-some, swapped-length, smallest-holds, smallest-least}
+use Rattle.store.proofs.Outcomes.{cleared-other, written-other, pushed-other, changed-other, removed-other, swap-removed-other}
 use Rattle.store.proofs.Sums.{Lawful, Good, lawful-holding, lawful-cleared, lawful-anew, lawful-grown, lawful-fresh, had-class, good-smallest}
 use Rattle.store.proofs.Views.{units-at, none-units}
 use Rattle.pool.specs.Calls.{Call, push, change, remove, swap-remove, clear, write, copy, fault, done, does, run}
 use Rattle.pool.specs.Laws.{target, Spared, Tidy}
-
--- another list, past each thing that is done to list l
-module _ {T : Type 0} (b : Bank T) (l m : ℕ) (ne : m ≢ l) where
-  holding-other : (xs : List T) (c : ℕ) → getD (holding b l xs c .lists) m nothing ≡ getD (b .lists) m nothing
-  unfolding holding
-  holding-other xs c = getD-set-other (b .lists) l m (record { items = xs; class = c }) nothing ne
-
-  cleared-other : getD (cleared b l .lists) m nothing ≡ getD (b .lists) m nothing
-  unfolding cleared
-  cleared-other = getD-set-other (b .lists) l m nothing nothing ne
-
-  shortened-other : (xs : List T) → getD (shortened b l xs .lists) m nothing ≡ getD (b .lists) m nothing
-  unfolding shortened
-  shortened-other [] = cleared-other
-  shortened-other (x ∷ xs) = holding-other (x ∷ xs) (class-of b l)
-
-obtained-other : {T : Type 0} (b : Bank T) (c m : ℕ) → getD (obtained b c .lists) m nothing ≡ getD (b .lists) m nothing
-obtained-other b c m = ap (λ ls. getD ls m nothing) (obtained-lists b c)
-
-module _ {T : Type 0} (b : Bank T) (l m : ℕ) (ne : m ≢ l) where
-  written-other : (xs : List T) → getD (written b l xs .lists) m nothing ≡ getD (b .lists) m nothing
-  unfolding written
-  written-other xs =
-      holding-other (obtained (cleared b l) (smallest (length xs))) l m ne xs (smallest (length xs))
-      ∙ (obtained-other (cleared b l) (smallest (length xs)) m ∙ cleared-other b l m ne)
-
-  grown-other : (xs : List T) → getD (grown b l xs .lists) m nothing ≡ getD (b .lists) m nothing
-  unfolding grown
-  grown-other xs =
-      holding-other (cleared (obtained b (smallest (length xs))) l) l m ne xs (smallest (length xs))
-      ∙ (cleared-other (obtained b (smallest (length xs))) l m ne ∙ obtained-other b (smallest (length xs)) m)
-
-  pushed-other : (x : T) → getD (pushed b l x .lists) m nothing ≡ getD (b .lists) m nothing
-  pushed-other x =
-      elim (cases-bool (roomy b l)) [
-        inl y ↦ ap (λ d. getD (d .lists) m nothing) (pushed-within b l x y) ∙ holding-other b l m ne (items-of b l ++ x ∷ []) (class-of b l)
-      | inr n ↦ ap (λ d. getD (d .lists) m nothing) (pushed-grown b l x n) ∙ grown-other (items-of b l ++ x ∷ []) ]
-
-  changed-other : (i : ℕ) (x : T) → getD (changed b l i x .lists) m nothing ≡ getD (b .lists) m nothing
-  unfolding changed
-  changed-other i x = holding-other b l m ne (set (items-of b l) i x) (class-of b l)
-
-  removed-other : (i : ℕ) → getD (removed-at b l i .lists) m nothing ≡ getD (b .lists) m nothing
-  unfolding removed-at
-  removed-other i = shortened-other b l m ne (removed (items-of b l) i)
-
-  swap-removed-other : (i : ℕ) → getD (swap-removed-at b l i .lists) m nothing ≡ getD (b .lists) m nothing
-  unfolding swap-removed-at
-  swap-removed-other i = shortened-other b l m ne (swapped-out (items-of b l) i)
 
 done-other : {T : Type 0} (c : Call T) (b : Bank T) (m : ℕ) → target c ≢ m → getD (done b c .lists) m nothing ≡ getD (b .lists) m nothing
 done-other (push l x) b m ne = pushed-other b l m (λ e. ne (sym e)) x

@@ -4,3 +4,4 @@ pub mod Stores
 pub mod Models
 pub mod Acts
 pub mod Sums
+pub mod Outcomes

@@ -31,6 +31,13 @@ impl<'a, T: Copy> Store<'a, T> {
         Store { cells, links, heads, sizes: SizeTable::new(), hand: Head::EMPTY, limit, used: 0 }
     }
 
+    // How many lists there are.
+    pub fn count(&self) -> usize
+        ensures { λ r. ⌜ r ≡ length (bank (now (self .entry)) .lists) ⌝ }
+    {
+        self.heads.len()
+    }
+
     // The items of a list.
     pub fn list(&self, l: u32) -> &[T]
         requires ready { ⌜ Ready (now self) ⌝ }

@@ -15,13 +15,6 @@ use crate::supply::offers;
 use crate::supply::spend;
 
 impl<'a, T: Copy> Store<'a, T> {
-    // How many lists there are.
-    pub fn count(&self) -> usize
-        ensures { λ r. ⌜ r ≡ length (bank (now (self .entry)) .lists) ⌝ }
-    {
-        self.heads.len()
-    }
-
     // The usable cells. Blocks of lists, freed blocks and untouched cells make them up, and no four cells have two owners.
     pub fn usable_cells(&self) -> u32
         requires ready { ⌜ Ready (now self) ⌝ }
@@ -45,10 +38,7 @@ impl<'a, T: Copy> Store<'a, T> {
     pub fn find(&self, l: u32) -> Result<(), PoolFault>
         ensures { λ r. ⌜ r ≡ judged (fault-list (bank (now (self .entry))) l) ⌝ }
     {
-        if l as usize >= self.heads.len() {
-            return Err(PoolFault::Unknown(l));
-        }
-        Ok(())
+        if (l as usize) < self.heads.len() { Ok(()) } else { Err(PoolFault::Unknown(l)) }
     }
 
     // Whether a list has a place.
