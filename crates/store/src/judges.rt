@@ -3,6 +3,7 @@
 ghost use mathlib.Core.Path.{_≡_};
 ghost use Prim.Native.Nat.{ℕ, _+_, _-_, _*_, _^_, _<_, _≤_};
 ghost use lib.ListN.{length};
+ghost use Rattle.std.specs.declared.result.Result.the-variants.{Ok, Err};
 ghost use Rattle.store.specs.Bank.{Ready, bank, class-of, fault-at, fault-block, fault-copy, fault-for, fault-list, fault-push, fault-write, items-of, listed-units, roomy, view};
 ghost use Rattle.store.specs.Units.{One-owner, freed-units, units};
 ghost use Rattle.store.specs.Faults.{judged};
@@ -36,7 +37,8 @@ impl<'a, T: Copy> Store<'a, T> {
 
     // Whether a list exists.
     pub fn find(&self, l: u32) -> Result<(), PoolFault>
-        ensures { λ r. ⌜ r ≡ judged (fault-list (bank (now (self .entry))) l) ⌝ }
+        ensures says { λ r. ⌜ r ≡ judged (fault-list (bank (now (self .entry))) l) ⌝ }
+        ensures within { λ r. ⌜ elim r [ Ok _ ↦ l < length (bank (now (self .entry)) .lists) | Err _ ↦ Unit {0} ] ⌝ }
     {
         if (l as usize) < self.heads.len() { Ok(()) } else { Err(PoolFault::Unknown(l)) }
     }
@@ -44,7 +46,8 @@ impl<'a, T: Copy> Store<'a, T> {
     // Whether a list has a place.
     pub fn find_place(&self, l: u32, i: u32) -> Result<(), PoolFault>
         requires ready { ⌜ Ready (now self) ⌝ }
-        ensures { λ r. ⌜ r ≡ judged (fault-at (bank (now (self .entry))) l i) ⌝ }
+        ensures says { λ r. ⌜ r ≡ judged (fault-at (bank (now (self .entry))) l i) ⌝ }
+        ensures within { λ r. ⌜ elim r [ Ok _ ↦ (l < length (bank (now (self .entry)) .lists)) × (i < length (items-of (bank (now (self .entry))) l)) | Err _ ↦ Unit {0} ] ⌝ }
     {
         if l as usize >= self.heads.len() {
             return Err(PoolFault::Unknown(l));
