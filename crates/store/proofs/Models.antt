@@ -117,21 +117,13 @@ same-for (n ∷ ns) b d p q =
     λ i. before (cond (e i) None (Some (no-block n))) (f i)
 
 -- by the steps of the code
-pub offer-some : {T : Type 0} (b : Bank T) (c : ℕ) → 0 < c → c ≤ 29 → 0 < getD (b .free) (c - 1) 0 → obtainable b c ≡ true
-unfolding obtainable
-offer-some b zero h l p = absurd (omega arith)
-offer-some b (suc k) h l p =
-    let q : suc k - 1 ≡ k = omega arith in
-    let r : 0 < getD (b .free) k 0 = subst (λ n. 0 < getD (b .free) n 0) q p in
-    rw (lt-ltb k 29 (omega arith), lt-ltb 0 (getD (b .free) k 0) r)
-
-pub offer-left : {T : Type 0} (b : Bank T) (c : ℕ) → 0 < c → c ≤ 29 → getD (b .free) (c - 1) 0 ≤ 0 → obtainable b c ≡ leb (units c) (b .left)
+pub offer-size : {T : Type 0} (b : Bank T) (c : ℕ) → 0 < c → c ≤ 29 → obtainable b c ≡ (ltb 0 (getD (b .free) (c - 1) 0) || leb (units c) (b .left))
 unfolding obtainable units
-offer-left b zero h l p = absurd (omega arith)
-offer-left b (suc k) h l p =
-    let q : suc k - 1 ≡ k = omega arith in
-    let r : getD (b .free) k 0 ≤ 0 = subst (λ n. getD (b .free) n 0 ≤ 0) q p in
-    rw (lt-ltb k 29 (omega arith), le-ltb 0 (getD (b .free) k 0) r)
+offer-size b zero h l = absurd (omega arith)
+offer-size b (suc k) h l =
+    let q : k ≡ suc k - 1 = omega arith in
+    let e = lt-ltb k 29 (omega arith) in
+    rw e (ap (λ n. ltb 0 (getD (b .free) n 0) || leb (2 ^ k) (b .left)) q)
 
 pub offer-none : {T : Type 0} (b : Bank T) (c : ℕ) → c ≡ 0 → obtainable b c ≡ true
 unfolding obtainable

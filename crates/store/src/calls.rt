@@ -17,6 +17,7 @@ use crate::classes::class_for;
 use crate::parts::Head;
 use crate::sizes::SizeTable;
 use crate::store::Store;
+use crate::supply::usable_units;
 
 impl<'a, T: Copy> Store<'a, T> {
     // Lists in lent memory, as many as there are heads and numbers; all are empty.
@@ -24,7 +25,7 @@ impl<'a, T: Copy> Store<'a, T> {
         ensures ready { λ r. ⌜ Ready r ⌝ }
         ensures holds { λ r. ⌜ bank r ≡ fresh (min (length (now (heads .entry))) (2 ^ 32)) (usable (length (now (cells .entry))) (length (now (links .entry)))) ⌝ }
     {
-        let limit = (cells.len() / 4).min(links.len()).min(1 << 28) as u32;
+        let limit = usable_units(cells.len(), links.len());
         let lists = heads.len().min(1 << 32);
         let heads = &mut heads[0..lists];
         wipe(heads);

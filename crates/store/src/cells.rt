@@ -6,11 +6,11 @@ ghost use lib.Seq.{paste};
 ghost use Rattle.store.specs.Units.{no-head};
 use crate::parts::Head;
 
-pub(crate) fn cell<T: Copy>(cells: &[T], at: usize) -> T
-    requires { ⌜ at < length (now cells) ⌝ }
-    ensures { λ r. ⌜ r ≡ getD (now (cells .entry)) at r ⌝ }
+pub(crate) fn cell<T: Copy>(cells: &[T], i: usize) -> T
+    requires { ⌜ i < length (now cells) ⌝ }
+    ensures { λ r. ⌜ r ≡ getD (now (cells .entry)) i r ⌝ }
 {
-    cells[at]
+    cells[i]
 }
 
 pub(crate) fn part<T>(cells: &[T], from: usize, n: usize) -> &[T]

@@ -1,12 +1,27 @@
 // What blocks can be had, of freed ones and of untouched units.
 ghost use mathlib.Core.Path.{_≡_};
-ghost use mathlib.Core.Bool.{true};
+ghost use mathlib.Core.Bool.{true, _||_};
+ghost use lib.Dec.{leb, ltb};
 ghost use Prim.Native.Nat.{ℕ, _+_, _-_, _*_, _^_, _<_, _≤_};
-ghost use Rattle.store.specs.Bank.{no-block, obtainable, obtained, stock};
+ghost use Rattle.store.specs.Bank.{no-block, obtainable, obtained, stock, usable};
 use crate::classes::class_for;
 use crate::classes::units_of;
 use crate::parts::PoolFault;
 use crate::sizes::SizeTable;
+
+// The usable units of so many cells and chain words.
+pub(crate) fn usable_units(cells: usize, links: usize) -> u32
+    ensures { λ r. ⌜ r ≡ usable cells links ⌝ }
+{
+    (cells / 4).min(links).min(1 << 28) as u32
+}
+
+// Whether one of so many freed blocks can be had, or one of so many untouched units.
+fn enough(count: u32, size: u32, left: u32) -> bool
+    ensures { λ r. ⌜ r ≡ (ltb 0 count || leb size left) ⌝ }
+{
+    count > 0 || size <= left
+}
 
 // Whether a block of a class can be had.
 pub(crate) fn offers(sizes: &SizeTable, left: u32, class: u32) -> bool
@@ -18,10 +33,7 @@ pub(crate) fn offers(sizes: &SizeTable, left: u32, class: u32) -> bool
     if class > 29 {
         return false;
     }
-    if sizes.record_of(class - 1).count > 0 {
-        return true;
-    }
-    units_of(class) <= left
+    enough(sizes.record_of(class - 1).count, units_of(class), left)
 }
 
 // Counts a block of a class as had, and answers the untouched units that are left then.

@@ -13,8 +13,7 @@ use Rattle.store.proofs.store.Store.new.Needs as need
 pub returns : need.returns
 unfolding bank fresh
 returns g c =
-    let m = c .min .ensures in
-    let n = c .min-limit .ensures in
+    let m = c .usable-units-limit .ensures in
     let k = c .min-lists .ensures in
     let len : length (take (c .min-lists .result - 0) (c .args .heads .now)) ≡ min (length (c .args .heads .now)) 4294967296 = simp length-take (omega arith) in
     let hs = c .wipe .ensures ∙ ap (λ j. replicate j no-head) len in
