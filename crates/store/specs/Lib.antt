@@ -1,0 +1,4 @@
+pub mod Faults
+pub mod Units
+pub mod Bank
+pub mod Held
