@@ -10,7 +10,7 @@ use Rattle.std.proofs.shelf.Lists.{length-map, length-take, length-set, map-set
 use Rattle.std.proofs.shelf.Tests.{cases-eq}
 use Rattle.ir.specs.declared.value_data.ValueData.{ValueData}
 use Rattle.ir.specs.declared.value_data.ValueDataPacked.{ValueDataPacked}
-use Rattle.values.specs.Defs.{definition, definitions, stored, Canonical, retired-fields}
+use Rattle.values.specs.Defs.{definition, definitions, stored, numbers, Canonical, retired-fields}
 use Rattle.values.specs.Tables.{listed, Canonicals, Put}
 
 pub listed-none : (ps : List ValueDataPacked) → listed 0 ps ≡ []
@@ -18,7 +18,6 @@ unfolding listed
 listed-none ps = refl
 
 pub canonicals-none : (ps : List ValueDataPacked) → Canonicals 0 ps
-unfolding Canonicals
 canonicals-none ps i h = absurd (omega arith)
 
 pub listed-long : (n : ℕ) (ps : List ValueDataPacked) → n ≤ length ps → length (listed n ps) ≡ n
@@ -52,18 +51,16 @@ canonical-at ps i j p h one old =
 
 canonicals-within : (n : ℕ) (ps : List ValueDataPacked) (i : ℕ) (p : ValueDataPacked) → i < length ps → Canonical p →
     Canonicals n ps → Canonicals n (set ps i p)
-unfolding Canonicals
 canonicals-within n ps i p h one all j k = canonical-at ps i j p h one (λ _. all j k)
 
 canonicals-behind : (ps : List ValueDataPacked) (i : ℕ) (p : ValueDataPacked) → i < length ps → Canonical p →
     Canonicals i ps → Canonicals (i + 1) (set ps i p)
-unfolding Canonicals
 canonicals-behind ps i p h one all j k = canonical-at ps i j p h one (λ ne. all j (omega arith))
 
 pub puts : (ps : List ValueDataPacked) (i : ℕ) (p : ValueDataPacked) (d : ValueData) → i < length ps →
     p ≡ stored d → definition p ≡ d → Put ps (set ps i p) i d
 puts ps i p d h says back =
-    let one : Canonical p = ap stored back ∙ sym says in
+    let one : Canonical p = ap numbers (ap stored back ∙ sym says) in
     record {
       memory = ap (set ps i) says;
       within = λ n k. listed-within n ps i p k ∙ ap (set (listed n ps) i) back;

@@ -1,7 +1,7 @@
 -- What packed memory says of values.
 use mathlib.Core.Path.{_≡_}
-use mathlib.Core.List.{List, map}
-use Prim.Native.Nat.{_<_}
+use mathlib.Core.List.{List, [], _∷_, map}
+use Prim.Native.Nat.{ℕ, _<_}
 use Rattle.std.specs.declared.result.Result.{Result}
 use Rattle.std.specs.declared.result.Result.the-variants.{Ok, Err}
 use Rattle.ir.specs.declared.value_data.ValueData.{ValueData}
@@ -35,6 +35,9 @@ stored d = or-retired-fields (packed d)
 abbrev pub Narrow : ValueData → Type 0
 Narrow d = type d .0 < 16384
 
--- packing what an entry unpacks to gives the same fields
+-- packing what an entry unpacks to gives the same fields; as numbers, so that a ghost field can hold it
+abbrev pub numbers : ValueDataPacked → List ℕ
+numbers p = p .x ∷ p .y ∷ p .flags ∷ []
+
 abbrev pub Canonical : ValueDataPacked → Type 0
-Canonical p = stored (definition p) ≡ p
+Canonical p = numbers (stored (definition p)) ≡ numbers p

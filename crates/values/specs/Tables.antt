@@ -13,7 +13,7 @@ unfoldable pub listed : ℕ → List ValueDataPacked → List ValueData
 listed n ps = definitions (take n ps)
 
 -- the first n entries are canonical
-unfoldable pub Canonicals : ℕ → List ValueDataPacked → Type 0
+abbrev pub Canonicals : ℕ → List ValueDataPacked → Type 0
 Canonicals n ps = (i : ℕ) → i < n → Canonical (getD ps i retired-fields)
 
 -- the definitions of the values that exist
