@@ -12,7 +12,7 @@ pub enum TableFault {
 }
 
 impl TableFault {
-    pub fn number(self) -> u8
+    pub fn number(self) -> u32
         ensures { λ r. ⌜ r ≡ refusal self .number ⌝ }
     {
         match self {
