@@ -21,7 +21,11 @@ mod tests {
     }
 
     fn front(items: &[u32], n: usize) -> &[u32] {
-        if n <= items.len() { &items[0..n] } else { items }
+        if n <= items.len() {
+            &items[0..n]
+        } else {
+            items
+        }
     }
 
     // A list of a pool holds n sevens.
@@ -38,7 +42,14 @@ mod tests {
         }
     }
 
-    const SIZES: [(u32, usize, u32); 6] = [(0, 4, 8), (1, 8, 16), (2, 16, 32), (3, 32, 64), (4, 64, 128), (5, 128, 256)];
+    const SIZES: [(u32, usize, u32); 6] = [
+        (0, 4, 8),
+        (1, 8, 16),
+        (2, 16, 32),
+        (3, 32, 64),
+        (4, 64, 128),
+        (5, 128, 256),
+    ];
 
     // Fills a pool to its last cell with one list of each size, which are then full; frees and reuses each size.
     fn every_size(pool: &mut Pool<'_, u32>) -> Result<(), Fail> {
@@ -193,7 +204,10 @@ mod tests {
         let mut links = [0u32; 12];
         let mut heads = [Head::EMPTY; 3];
         let mut pool = Pool::new(&mut cells, &mut links, &mut heads);
-        let mut plain = Plain { items: [0; 48], lens: [0; 3] };
+        let mut plain = Plain {
+            items: [0; 48],
+            lens: [0; 3],
+        };
         steps(&mut pool, &mut plain)
     }
 }
