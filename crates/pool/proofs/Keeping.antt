@@ -50,8 +50,9 @@ module _ {T : Type 0} (u : ℕ) (b : Bank T) (ok : Lawful u b) where
   lawful-shortened l h xs n =
       let f = ok .good l .0 in
       elim (cases-lt 0 (length xs)) [
-        inl p ↦ subst (Lawful u) (sym (shortened-some b l xs p)) (lawful-holding u b l ok h xs (omega arith) (λ q. p))
-      | inr z ↦ subst (Lawful u) (sym (shortened-none b l xs (omega arith))) (lawful-cleared u b l ok h) ]
+        | inl p ↦ subst (Lawful u) (sym (shortened-some b l xs p)) (lawful-holding u b l ok h xs (omega arith) (λ q. p))
+        | inr z ↦ subst (Lawful u) (sym (shortened-none b l xs (omega arith))) (lawful-cleared u b l ok h)
+      ]
 
   lawful-pushed : (l : ℕ) (x : T) → fault b (push l x) ≡ None → Lawful u (pushed b l x)
   unfolding grown
@@ -60,14 +61,15 @@ module _ {T : Type 0} (u : ℕ) (b : Bank T) (ok : Lawful u b) where
       let xs = items-of b l ++ x ∷ [] in
       let n = length-push (items-of b l) x in
       elim (cases-bool (roomy b l)) [
-        inl y ↦ let r = ltb-true _ _ y in
-          subst (Lawful u) (sym (pushed-within b l x y)) (lawful-holding u b l ok h (items-of b l ++ x ∷ []) (omega arith) (λ q. omega arith))
-      | inr y ↦
-          let o = none-block b (length (items-of b l) + 1) (sym (push-grows b l h y) ∙ e) in
-          let c : obtainable b (smallest (length (items-of b l ++ x ∷ []))) ≡ true = ap (λ k. obtainable b (smallest k)) n ∙ o in
-          subst (Lawful u) (sym (pushed-grown b l x y))
+        | inl y ↦ let r = ltb-true _ _ y in
+            subst (Lawful u) (sym (pushed-within b l x y)) (lawful-holding u b l ok h (items-of b l ++ x ∷ []) (omega arith) (λ q. omega arith))
+        | inr y ↦
+            let o = none-block b (length (items-of b l) + 1) (sym (push-grows b l h y) ∙ e) in
+            let c : obtainable b (smallest (length (items-of b l ++ x ∷ []))) ≡ true = ap (λ k. obtainable b (smallest k)) n ∙ o in
+            subst (Lawful u) (sym (pushed-grown b l x y))
             (lawful-grown u b l ok h (items-of b l ++ x ∷ []) (smallest (length (items-of b l ++ x ∷ [])))
-              (good-smallest (items-of b l ++ x ∷ []) (had-class b (smallest (length (items-of b l ++ x ∷ []))) c)) c) ]
+            (good-smallest (items-of b l ++ x ∷ []) (had-class b (smallest (length (items-of b l ++ x ∷ []))) c)) c)
+      ]
 
   lawful-written : (l : ℕ) (xs : List T) → fault b (write l xs) ≡ None → Lawful u (written b l xs)
   unfolding written
@@ -114,15 +116,17 @@ nothing-leaks n u cs =
       whole = ok .total;
       fits = λ l. ok .good l .0;
       empty = λ l e. elim (cases-lt 0 (class-of b l)) [ inl p ↦ let q = ok .good l .2 p in absurd (omega arith) | inr z ↦ omega arith ];
-      filled = λ l e. let f = ok .good l .0 in let k = ap units e ∙ none-units in omega arith }
+      filled = λ l e. let f = ok .good l .0 in let k = ap units e ∙ none-units in omega arith;
+    }
 
 pub refused-when : {T : Type 0} (b : Bank T) (k : ℕ) → k ≤ 28
     → (obtainable b (k + 1) ≡ false → (getD (b .free) k 0 ≡ 0) × (4 * b .left < 4 * 2 ^ k)) × ((getD (b .free) k 0 ≡ 0) × (4 * b .left < 4 * 2 ^ k) → obtainable b (k + 1) ≡ false)
 unfolding obtainable
 refused-when b k h =
-    rw add-one
-      ((λ e. (grind (arith, tells), grind (arith, tells)))
-      , (λ p. rw (lt-ltb k 29 (omega arith), le-ltb 0 (getD (b .free) k 0) (omega (arith, p .0)), lt-leb (2 ^ k) (b .left) (omega (arith, p .1)))))
+    rw add-one (
+      (λ e. (grind (arith, tells), grind (arith, tells))),
+      (λ p. rw (lt-ltb k 29 (omega arith), le-ltb 0 (getD (b .free) k 0) (omega (arith, p .0)), lt-leb (2 ^ k) (b .left) (omega (arith, p .1)))),
+    )
 
 pub smallest-had : (n : ℕ) → n ≤ 2 ^ 30 → Smallest n (smallest n)
 smallest-had n h =

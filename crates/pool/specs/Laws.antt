@@ -46,7 +46,7 @@ abbrev pub Refused-when : Type 0 → Type 0
 Refused-when T =
     (b : Bank T) (k : ℕ) → k ≤ 28
     → (obtainable b (k + 1) ≡ false → (getD (b .free) k 0 ≡ 0) × (4 * b .left < 4 * 2 ^ k))
-      × ((getD (b .free) k 0 ≡ 0) × (4 * b .left < 4 * 2 ^ k) → obtainable b (k + 1) ≡ false)
+    × ((getD (b .free) k 0 ≡ 0) × (4 * b .left < 4 * 2 ^ k) → obtainable b (k + 1) ≡ false)
 
 -- up to 2^30 items, the class that a list gets holds them, and no smaller one does
 abbrev pub Smallest-had : Type 0

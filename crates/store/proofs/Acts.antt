@@ -27,8 +27,9 @@ unfolding obtained taken
 obtained-lists b zero = refl
 obtained-lists b (suc k) =
     elim (cases-lt 0 (getD (b .free) k 0)) [
-      inl h ↦ rw (lt-ltb 0 (getD (b .free) k 0) h)
-    | inr h ↦ rw (le-ltb 0 (getD (b .free) k 0) h) ]
+      | inl h ↦ rw (lt-ltb 0 (getD (b .free) k 0) h)
+      | inr h ↦ rw (le-ltb 0 (getD (b .free) k 0) h)
+    ]
 
 -- list l changed in the block that it has: in hand, and back
 pub relisted : {T : Type 0} (s t : Store T) (l : ℕ) (xs : List T) → l < length (bank s .lists) → Ready s → Sound t
@@ -36,10 +37,11 @@ pub relisted : {T : Type 0} (s t : Store T) (l : ℕ) (xs : List T) → l < leng
 unfolding bank held holding
 relisted s t l xs h ready ok e =
     let k = sym (hand-class t ok)
-        ∙ (ap (λ x. x .hand .class) e
-        ∙ (ap (λ o. o .class) (getD-set-same (held s .lists) l (held s .hand) nothing h) ∙ (hand-class s (ready .sound) ∙ ready .empty))) in
-    (record { sound = ok; empty = k }
-    , ap shown e ∙ same-bank (set-set (held s .lists) l (held s .hand) (record { items = xs; class = getD (held s .lists) l nothing .class })) refl refl)
+    ∙ (ap (λ x. x .hand .class) e
+    ∙ (ap (λ o. o .class) (getD-set-same (held s .lists) l (held s .hand) nothing h) ∙ (hand-class s (ready .sound) ∙ ready .empty))) in (
+      record { sound = ok; empty = k },
+      ap shown e ∙ same-bank (set-set (held s .lists) l (held s .hand) (record { items = xs; class = getD (held s .lists) l nothing .class })) refl refl,
+    )
 
 -- list l in a new block, and its old one freed
 pub moved : {T : Type 0} (s t : Store T) (l c : ℕ) (xs : List T) → Sound t → t .hand .class ≡ 0
@@ -48,19 +50,21 @@ unfolding bank held holding cleared
 moved s t l c xs ok z e =
     let b = shown (held s) in
     let ls = obtained-lists (shown (held s)) c in
-    let new : Owned _ = record { items = xs; class = c } in
-    (record { sound = ok; empty = z }
-    , ap shown e ∙ same-bank
-        (ap (λ ys. set ys l new) (sym ls) ∙ sym (set-set (obtained (shown (held s)) c .lists) l nothing new))
-        (ap (λ ys. spared (obtained (shown (held s)) c .free) (getD ys l nothing .class)) (sym ls))
-        refl)
+    let new : Owned _ = record { items = xs; class = c } in (
+      record { sound = ok; empty = z },
+      ap shown e ∙ same-bank
+          (ap (λ ys. set ys l new) (sym ls) ∙ sym (set-set (obtained (shown (held s)) c .lists) l nothing new))
+          (ap (λ ys. spared (obtained (shown (held s)) c .free) (getD ys l nothing .class)) (sym ls))
+          refl,
+    )
 
 -- list l emptied
 pub emptied : {T : Type 0} (s t : Store T) (l : ℕ) → Ready s → Sound t → t .hand .class ≡ 0 → held t ≡ settled (held s) l → Ready t × (bank t ≡ cleared (bank s) l)
 unfolding bank held cleared
-emptied s t l ready ok z e =
-    (record { sound = ok; empty = z }
-    , ap shown e ∙ same-bank (ap (set (held s .lists) l) (nothing-in-hand s (ready .sound) (ready .empty))) refl refl)
+emptied s t l ready ok z e = (
+  record { sound = ok; empty = z },
+  ap shown e ∙ same-bank (ap (set (held s .lists) l) (nothing-in-hand s (ready .sound) (ready .empty))) refl refl,
+)
 
 -- the smallest class that holds n
 holds-from : (f c n : ℕ) → first-class f c n < c + f → n ≤ 4 * units (first-class f c n)
@@ -68,22 +72,24 @@ unfolding first-class
 holds-from zero c n h = absurd (omega arith)
 holds-from (suc f) c n h =
     elim (cases-lt (4 * units c) n) [
-      inl m ↦ let e = lt-leb n (4 * units c) m in
-        let k : first-class f (suc c) n < c + suc f = rw e at h in
-        let g : first-class f (suc c) n < suc c + f = omega arith in
-        rw e (holds-from f (suc c) n g)
-    | inr p ↦ let e = le-leb n (4 * units c) p in rw e p ]
+      | inl m ↦ let e = lt-leb n (4 * units c) m in
+          let k : first-class f (suc c) n < c + suc f = rw e at h in
+          let g : first-class f (suc c) n < suc c + f = omega arith in
+          rw e (holds-from f (suc c) n g)
+      | inr p ↦ let e = le-leb n (4 * units c) p in rw e p
+    ]
 
 least-from : (f c n d : ℕ) → c ≤ d → n ≤ 4 * units d → first-class f c n ≤ d
 unfolding first-class
 least-from zero c n d h p = h
 least-from (suc f) c n d h p =
     elim (cases-lt (4 * units c) n) [
-      inl m ↦
-        let e = lt-leb n (4 * units c) m in
-        let ne : suc c ≤ d = elim (cases-eq c d) [ inl q ↦ let u = ap units q in absurd (omega arith) | inr q ↦ omega arith ] in
-        rw e (least-from f (suc c) n d ne p)
-    | inr q ↦ let e = le-leb n (4 * units c) q in rw e h ]
+      | inl m ↦
+          let e = lt-leb n (4 * units c) m in
+          let ne : suc c ≤ d = elim (cases-eq c d) [ inl q ↦ let u = ap units q in absurd (omega arith) | inr q ↦ omega arith ] in
+          rw e (least-from f (suc c) n d ne p)
+      | inr q ↦ let e = le-leb n (4 * units c) q in rw e h
+    ]
 
 pub smallest-holds : (n : ℕ) → smallest n ≤ 29 → n ≤ 4 * units (smallest n)
 unfolding smallest
@@ -113,16 +119,17 @@ other-obtained b l zero ne = refl
 other-obtained b l (suc k) ne =
     let o = spared-other (b .free) (class-of b l) k ne in
     elim (cases-lt 0 (getD (b .free) k 0)) [
-      inl h ↦
-        let e = lt-ltb 0 (getD (b .free) k 0) h in
-        let f = ap (λ n. ltb 0 n) o ∙ e in
-        rw (f, e) (same-bank refl
+      | inl h ↦
+          let e = lt-ltb 0 (getD (b .free) k 0) h in
+          let f = ap (λ n. ltb 0 n) o ∙ e in
+          rw (f, e) (same-bank refl
           (ap (λ n. set (spared (b .free) (class-of b l)) k (n - 1)) o ∙ spared-set (b .free) (class-of b l) k (getD (b .free) k 0 - 1) ne)
           refl)
-    | inr h ↦
-        let e = le-ltb 0 (getD (b .free) k 0) h in
-        let f = ap (λ n. ltb 0 n) o ∙ e in
-        rw (f, e) ]
+      | inr h ↦
+          let e = le-ltb 0 (getD (b .free) k 0) h in
+          let f = ap (λ n. ltb 0 n) o ∙ e in
+          rw (f, e)
+    ]
 
 own-obtained : {T : Type 0} (b : Bank T) (l : ℕ) (xs : List T) → length (b .free) ≡ 29 → class-of b l ≤ 29 → (c : ℕ) → c ≡ class-of b l
     → holding (obtained (cleared b l) c) l xs c ≡ holding b l xs c
@@ -133,12 +140,12 @@ own-obtained b l xs n f (suc k) e =
     let m = getD (b .free) k 0 in
     let p : spared (b .free) (class-of b l) ≡ set (b .free) k (getD (b .free) k 0 + 1) = ap (spared (b .free)) (sym e) in
     let q : getD (spared (b .free) (class-of b l)) k 0 ≡ getD (b .free) k 0 + 1 =
-        ap (λ ys. getD ys k 0) p ∙ getD-set-same (b .free) k (getD (b .free) k 0 + 1) 0 (omega arith) in
+    ap (λ ys. getD ys k 0) p ∙ getD-set-same (b .free) k (getD (b .free) k 0 + 1) 0 (omega arith) in
     let t = lt-ltb 0 (getD (spared (b .free) (class-of b l)) k 0) (omega arith) in
     let z : getD (b .free) k 0 + 1 - 1 ≡ getD (b .free) k 0 = omega arith in
     rw t (same-bank (set-set (b .lists) l nothing (record { items = xs; class = suc k }))
-      ((λ i. set (p i) k (q i - 1)) ∙ (set-set (b .free) k (getD (b .free) k 0 + 1) (getD (b .free) k 0 + 1 - 1) ∙ (ap (set (b .free) k) z ∙ set-getD (b .free) k 0)))
-      refl)
+    ((λ i. set (p i) k (q i - 1)) ∙ (set-set (b .free) k (getD (b .free) k 0 + 1) (getD (b .free) k 0 + 1 - 1) ∙ (ap (set (b .free) k) z ∙ set-getD (b .free) k 0)))
+    refl)
 
 -- a list written anew, by cases
 module _ {T : Type 0} (b : Bank T) (l : ℕ) (xs : List T) where
@@ -192,11 +199,11 @@ module _ {T : Type 0} (xs : List T) (i : ℕ) (x : T) (h : i < length xs) (e : x
       let n = length xs in
       let z : length xs ≤ length xs - 1 + 1 = omega arith in
       let last : drop (length xs - 1) xs ≡ x ∷ [] =
-          drop-more xs (length xs - 1) x (omega arith) ∙ (λ j. sym e j ∷ drop-all (length xs - 1 + 1) xs z j) in
+      drop-more xs (length xs - 1) x (omega arith) ∙ (λ j. sym e j ∷ drop-all (length xs - 1 + 1) xs z j) in
       let body : set xs i x ≡ take i xs ++ drop (length xs - 1) xs ++ drop (i + 1) xs =
-          set-split xs i x h
-          ∙ (sym (append-assoc (take i xs) (x ∷ []) (drop (suc i) xs))
-          ∙ (ap (λ k. (take i xs ++ x ∷ []) ++ drop k xs) (sym (add-one i)) ∙ ap (λ ys. (take i xs ++ ys) ++ drop (i + 1) xs) (sym last))) in
+      set-split xs i x h
+      ∙ (sym (append-assoc (take i xs) (x ∷ []) (drop (suc i) xs))
+      ∙ (ap (λ k. (take i xs ++ x ∷ []) ++ drop k xs) (sym (add-one i)) ∙ ap (λ ys. (take i xs ++ ys) ++ drop (i + 1) xs) (sym last))) in
       ap (λ k. take (k - 1) (set xs i x)) (length-set xs i x) ∙ ap (take (length xs - 1)) body
 
 pub swapped-length : {T : Type 0} (xs : List T) (i : ℕ) → i < length xs → length (swapped-out xs i) ≡ length xs - 1
@@ -206,5 +213,6 @@ swapped-length xs i h = simp (length-take, length-append, length-take, length-dr
 pub smallest-some : (n : ℕ) → 0 < n → 0 < smallest n
 smallest-some n h =
     elim (cases-lt 0 (smallest n)) [
-      inl p ↦ p
-    | inr z ↦ let e : smallest n ≡ 0 = omega arith in let q = smallest-none n e in absurd (omega arith) ]
+      | inl p ↦ p
+      | inr z ↦ let e : smallest n ≡ 0 = omega arith in let q = smallest-none n e in absurd (omega arith)
+    ]

@@ -34,9 +34,9 @@ part-kept {T = T} xs s at m b n p q (inl h) =
     ap (take n) (sym (f (paste xs at s m)) ∙ (ap (drop (b - (at + m))) (drop-paste xs at s m (omega arith) q) ∙ f xs))
 part-kept xs s at m b n p q (inr (inl h)) =
     let t : take (b + n) (paste xs at s m) ≡ take (b + n) xs =
-        ap (take (b + n)) (append-assoc (take at xs) (take m s) (drop (at + m) xs))
-        ∙ (take-append-le (b + n) (take at xs) (take m s ++ drop (at + m) xs) (simp length-take (omega arith))
-        ∙ take-take (b + n) at xs h) in
+    ap (take (b + n)) (append-assoc (take at xs) (take m s) (drop (at + m) xs))
+    ∙ (take-append-le (b + n) (take at xs) (take m s ++ drop (at + m) xs) (simp length-take (omega arith))
+    ∙ take-take (b + n) at xs h) in
     sym (drop-take b n (paste xs at s m)) ∙ (ap (drop b) t ∙ drop-take b n xs)
 part-kept xs s at m b n p q (inr (inr z)) = ap (λ k. take k (drop b (paste xs at s m))) z ∙ sym (ap (λ k. take k (drop b xs)) z)
 
@@ -51,9 +51,9 @@ pub lists-kept : {T : Type 0} (cells s : List T) (v : View) (i m : ℕ) → Apar
 unfolding owned
 lists-kept cells s v i m apart filled p h q r =
     map-same (owned (paste cells (4 * v .hand .start + i) s m)) (owned cells) (v .heads) no-head
-      (λ l. ap (λ y. record { items = y; class = getD (v .heads) l no-head .class })
-        (part-kept cells s (4 * v .hand .start + i) m (4 * getD (v .heads) l no-head .start) (getD (v .heads) l no-head .len) q r
-          (hand-outside v apart filled i m l p h)))
+    (λ l. ap (λ y. record { items = y; class = getD (v .heads) l no-head .class })
+    (part-kept cells s (4 * v .hand .start + i) m (4 * getD (v .heads) l no-head .start) (getD (v .heads) l no-head .len) q r
+    (hand-outside v apart filled i m l p h)))
 
 -- the same of one cell
 pub lists-kept-one : {T : Type 0} (cells : List T) (x : T) (v : View) (i : ℕ) → Apart v → Filled (v .hand) (v .heads)
@@ -86,7 +86,7 @@ pub append-hand : {T : Type 0} (cells : List T) (h : Head) (x : T) → 4 * h .st
 unfolding owned
 append-hand cells h x p =
     ap (λ y. record { items = y; class = h .class })
-      (ap (take (h .len + 1)) (drop-set-add (4 * h .start) cells (h .len) x) ∙ take-more-set (drop (4 * h .start) cells) (h .len) x (omega (arith, length-drop (4 * h .start) cells)))
+    (ap (take (h .len + 1)) (drop-set-add (4 * h .start) cells (h .len) x) ∙ take-more-set (drop (4 * h .start) cells) (h .len) x (omega (arith, length-drop (4 * h .start) cells)))
 
 take-set-in : {T : Type 0} (n : ℕ) (xs : List T) (i : ℕ) (x : T) → i < n → take n (set xs i x) ≡ set (take n xs) i x
 take-set-in zero xs i x h = absurd (omega arith)
@@ -99,17 +99,17 @@ pub write-hand : {T : Type 0} (cells : List T) (h : Head) (i : ℕ) (x : T) → 
 unfolding owned
 write-hand cells h i x p =
     ap (λ y. record { items = y; class = h .class })
-      (ap (take (h .len)) (drop-set-add (4 * h .start) cells i x) ∙ take-set-in (h .len) (drop (4 * h .start) cells) i x p)
+    (ap (take (h .len)) (drop-set-add (4 * h .start) cells i x) ∙ take-set-in (h .len) (drop (4 * h .start) cells) i x p)
 
 pub cut-hand : {T : Type 0} (cells : List T) (h : Head) → 4 * h .start + h .len ≤ length cells
     → owned cells (record { start = h .start; len = h .len - 1; class = h .class })
-      ≡ record { items = take (length (owned cells h .items) - 1) (owned cells h .items); class = h .class }
+    ≡ record { items = take (length (owned cells h .items) - 1) (owned cells h .items); class = h .class }
 unfolding owned
 cut-hand cells h p =
     let ys = drop (4 * h .start) cells in
     let n : length (take (h .len) ys) ≡ h .len = owned-length cells h p in
     ap (λ y. record { items = y; class = h .class })
-      (sym (ap (λ m. take (m - 1) (take (h .len) ys)) n ∙ take-take (h .len - 1) (h .len) ys (omega arith)))
+    (sym (ap (λ m. take (m - 1) (take (h .len) ys)) n ∙ take-take (h .len - 1) (h .len) ys (omega arith)))
 
 pub load-hand : {T : Type 0} (cells s : List T) (start m c : ℕ) → 4 * start + m ≤ length cells → m ≤ length s
     → owned (paste cells (4 * start) s m) (record { start = start; len = m; class = c }) ≡ record { items = take m s; class = c }
@@ -117,12 +117,12 @@ unfolding owned
 load-hand cells s start m c p q =
     let e : length (take (4 * start) cells) ≡ 4 * start = length-take-le (4 * start) cells (omega arith) in
     ap (λ y. record { items = y; class = c })
-      (sym (drop-take (4 * start) m (paste cells (4 * start) s m))
-      ∙ (ap (drop (4 * start)) (take-paste cells (4 * start) s m (omega arith) q) ∙ drop-at (take (4 * start) cells) (take m s) (4 * start) e))
+    (sym (drop-take (4 * start) m (paste cells (4 * start) s m))
+    ∙ (ap (drop (4 * start)) (take-paste cells (4 * start) s m (omega arith) q) ∙ drop-at (take (4 * start) cells) (take m s) (4 * start) e))
 
 pub gap-hand : {T : Type 0} (cells : List T) (h : Head) (i : ℕ) → 4 * h .start + h .len ≤ length cells → i < h .len
     → owned (paste cells (4 * h .start + i) (drop (4 * h .start + i + 1) cells) (h .len - i - 1)) (record { start = h .start; len = h .len - 1; class = h .class })
-      ≡ record { items = removed (owned cells h .items) i; class = h .class }
+    ≡ record { items = removed (owned cells h .items) i; class = h .class }
 unfolding owned
 gap-hand cells h i p q =
     let B = 4 * h .start in
@@ -135,17 +135,17 @@ gap-hand cells h i p q =
     let f : h .len ≡ suc i + m = omega arith in
     let g : B + i + 1 ≡ B + suc i = omega arith in
     let t : take (B + (i + m)) new ≡ take (B + i) cells ++ take m (drop (B + i + 1) cells) =
-        ap (λ k. take k new) b ∙ take-paste cells (B + i) (drop (B + i + 1) cells) m (omega arith) (omega arith) in
+    ap (λ k. take k new) b ∙ take-paste cells (B + i) (drop (B + i + 1) cells) m (omega arith) (omega arith) in
     let d : drop B (take (B + i) cells) ≡ take i ys = drop-take B i cells in
     let front : take i (take (h .len) ys) ≡ take i ys = take-take i (h .len) ys (omega arith) in
     let back : drop (suc i) (take (h .len) ys) ≡ take m (drop (B + i + 1) cells) =
-        ap (λ k. drop (suc i) (take k ys)) f ∙ (drop-take (suc i) m ys ∙ ap (take m) (drop-drop (suc i) B cells ∙ ap (λ k. drop k cells) (sym g))) in
+    ap (λ k. drop (suc i) (take k ys)) f ∙ (drop-take (suc i) m ys ∙ ap (take m) (drop-drop (suc i) B cells ∙ ap (λ k. drop k cells) (sym g))) in
     ap (λ y. record { items = y; class = h .class })
-      (ap (λ k. take k (drop B new)) a
-      ∙ (sym (drop-take B (i + m) new)
-      ∙ (ap (drop B) t
-      ∙ (drop-append-le B (take (B + i) cells) (take m (drop (B + i + 1) cells)) (simp length-take (omega arith))
-      ∙ (ap (λ z. z ++ take m (drop (B + i + 1) cells)) (d ∙ sym front) ∙ ap (λ z. take i (take (h .len) ys) ++ z) (sym back))))))
+    (ap (λ k. take k (drop B new)) a
+    ∙ (sym (drop-take B (i + m) new)
+    ∙ (ap (drop B) t
+    ∙ (drop-append-le B (take (B + i) cells) (take m (drop (B + i + 1) cells)) (simp length-take (omega arith))
+    ∙ (ap (λ z. z ++ take m (drop (B + i + 1) cells)) (d ∙ sym front) ∙ ap (λ z. take i (take (h .len) ys) ++ z) (sym back))))))
 
 -- a write from the block's start
 pub lists-kept-from : {T : Type 0} (cells s : List T) (v : View) (m : ℕ) → Apart v → Filled (v .hand) (v .heads) → 0 < units (v .hand .class)

@@ -85,28 +85,30 @@ unfolding obtained taken
 same-free b d zero p q = p
 same-free b d (suc k) p q =
     elim (cases-lt 0 (getD (b .free) k 0)) [
-      inl h ↦
-        let e = lt-ltb 0 (getD (b .free) k 0) h in
-        let f = sym (ap (λ xs. ltb 0 (getD xs k 0)) p) ∙ e in
-        rw (e, f) (ap (λ xs. set xs k (getD xs k 0 - 1)) p)
-    | inr h ↦
-        let e = le-ltb 0 (getD (b .free) k 0) h in
-        let f = sym (ap (λ xs. ltb 0 (getD xs k 0)) p) ∙ e in
-        rw (e, f) p ]
+      | inl h ↦
+          let e = lt-ltb 0 (getD (b .free) k 0) h in
+          let f = sym (ap (λ xs. ltb 0 (getD xs k 0)) p) ∙ e in
+          rw (e, f) (ap (λ xs. set xs k (getD xs k 0 - 1)) p)
+      | inr h ↦
+          let e = le-ltb 0 (getD (b .free) k 0) h in
+          let f = sym (ap (λ xs. ltb 0 (getD xs k 0)) p) ∙ e in
+          rw (e, f) p
+    ]
 
 pub same-left : {S T : Type 0} (b : Bank S) (d : Bank T) (c : ℕ) → b .free ≡ d .free → b .left ≡ d .left → obtained b c .left ≡ obtained d c .left
 unfolding obtained taken
 same-left b d zero p q = q
 same-left b d (suc k) p q =
     elim (cases-lt 0 (getD (b .free) k 0)) [
-      inl h ↦
-        let e = lt-ltb 0 (getD (b .free) k 0) h in
-        let f = sym (ap (λ xs. ltb 0 (getD xs k 0)) p) ∙ e in
-        rw (e, f) q
-    | inr h ↦
-        let e = le-ltb 0 (getD (b .free) k 0) h in
-        let f = sym (ap (λ xs. ltb 0 (getD xs k 0)) p) ∙ e in
-        rw (e, f) (ap (λ n. n - 2 ^ k) q) ]
+      | inl h ↦
+          let e = lt-ltb 0 (getD (b .free) k 0) h in
+          let f = sym (ap (λ xs. ltb 0 (getD xs k 0)) p) ∙ e in
+          rw (e, f) q
+      | inr h ↦
+          let e = le-ltb 0 (getD (b .free) k 0) h in
+          let f = sym (ap (λ xs. ltb 0 (getD xs k 0)) p) ∙ e in
+          rw (e, f) (ap (λ n. n - 2 ^ k) q)
+    ]
 
 pub same-for : {S T : Type 0} (ns : List ℕ) (b : Bank S) (d : Bank T) → b .free ≡ d .free → b .left ≡ d .left → fault-for b ns ≡ fault-for d ns
 unfolding fault-for fault-block
@@ -228,9 +230,10 @@ module _ {T : Type 0} (b : Bank T) (l i : ℕ) where
 
   pub known-at : fault-at b l i ≡ None → (l < length (b .lists)) × (i < length (items-of b l))
   unfolding fault-at
-  known-at e =
-      (known-list b l (before-first (fault-list b l) _ e)
-      , ltb-true i (length (items-of b l)) (cond-none (ltb i (length (items-of b l))) (Unknown i) (before-second (fault-list b l) _ e)))
+  known-at e = (
+    known-list b l (before-first (fault-list b l) _ e),
+    ltb-true i (length (items-of b l)) (cond-none (ltb i (length (items-of b l))) (Unknown i) (before-second (fault-list b l) _ e)),
+  )
 
 module _ {T : Type 0} (b : Bank T) (l : ℕ) where
   pub push-unknown : length (b .lists) ≤ l → judged (fault-push b l) ≡ Err (Unknown l)
@@ -304,4 +307,3 @@ found b l e = known-list b l (judged-none (fault-list b l) e)
 
 pub found-at : {T : Type 0} (b : Bank T) (l i : ℕ) → judged (fault-at b l i) ≡ Ok tt → (l < length (b .lists)) × (i < length (items-of b l))
 found-at b l i e = known-at b l i (judged-none (fault-at b l i) e)
-

@@ -47,8 +47,9 @@ module _ {T : Type 0} (b : Bank T) (l : ℕ) where
   pub pushed-many : (x : T) → length (pushed b l x .lists) ≡ length (b .lists)
   pushed-many x =
       elim (cases-bool (roomy b l)) [
-        inl y ↦ ap (λ d. length (d .lists)) (pushed-within b l x y) ∙ holding-many b l (items-of b l ++ x ∷ []) (class-of b l)
-      | inr n ↦ ap (λ d. length (d .lists)) (pushed-grown b l x n) ∙ grown-many (items-of b l ++ x ∷ []) ]
+        | inl y ↦ ap (λ d. length (d .lists)) (pushed-within b l x y) ∙ holding-many b l (items-of b l ++ x ∷ []) (class-of b l)
+        | inr n ↦ ap (λ d. length (d .lists)) (pushed-grown b l x n) ∙ grown-many (items-of b l ++ x ∷ [])
+      ]
 
   pub changed-many : (i : ℕ) (x : T) → length (changed b l i x .lists) ≡ length (b .lists)
   unfolding changed
@@ -93,8 +94,9 @@ module _ {T : Type 0} (b : Bank T) (l m : ℕ) (ne : m ≢ l) where
   pub pushed-other : (x : T) → getD (pushed b l x .lists) m nothing ≡ getD (b .lists) m nothing
   pushed-other x =
       elim (cases-bool (roomy b l)) [
-        inl y ↦ ap (λ d. getD (d .lists) m nothing) (pushed-within b l x y) ∙ holding-other b l m ne (items-of b l ++ x ∷ []) (class-of b l)
-      | inr n ↦ ap (λ d. getD (d .lists) m nothing) (pushed-grown b l x n) ∙ grown-other (items-of b l ++ x ∷ []) ]
+        | inl y ↦ ap (λ d. getD (d .lists) m nothing) (pushed-within b l x y) ∙ holding-other b l m ne (items-of b l ++ x ∷ []) (class-of b l)
+        | inr n ↦ ap (λ d. getD (d .lists) m nothing) (pushed-grown b l x n) ∙ grown-other (items-of b l ++ x ∷ [])
+      ]
 
   pub changed-other : (i : ℕ) (x : T) → getD (changed b l i x .lists) m nothing ≡ getD (b .lists) m nothing
   unfolding changed
@@ -141,8 +143,9 @@ module _ {T : Type 0} (b : Bank T) (l : ℕ) (h : l < length (b .lists)) where
   pub pushed-items : (x : T) → items-of (pushed b l x) l ≡ items-of b l ++ x ∷ []
   pushed-items x =
       elim (cases-bool (roomy b l)) [
-        inl y ↦ ap (λ d. items-of d l) (pushed-within b l x y) ∙ ap (λ o. o .items) (holding-at b l h (items-of b l ++ x ∷ []) (class-of b l))
-      | inr n ↦ ap (λ d. items-of d l) (pushed-grown b l x n) ∙ grown-items (items-of b l ++ x ∷ []) ]
+        | inl y ↦ ap (λ d. items-of d l) (pushed-within b l x y) ∙ ap (λ o. o .items) (holding-at b l h (items-of b l ++ x ∷ []) (class-of b l))
+        | inr n ↦ ap (λ d. items-of d l) (pushed-grown b l x n) ∙ grown-items (items-of b l ++ x ∷ [])
+      ]
 
   pub changed-items : (i : ℕ) (x : T) → items-of (changed b l i x) l ≡ set (items-of b l) i x
   unfolding changed
@@ -177,6 +180,6 @@ module _ {T : Type 0} (b : Bank T) (l : ℕ) (none : class-of b l ≡ 0) where
   for-rest xs ns e =
       let c = smallest (length xs) in
       same-for ns (written b l xs) (obtained b (smallest (length xs)))
-        (same-free (cleared b l) b (smallest (length xs)) cleared-free cleared-left)
-        (same-left (cleared b l) b (smallest (length xs)) cleared-free cleared-left)
+      (same-free (cleared b l) b (smallest (length xs)) cleared-free cleared-left)
+      (same-left (cleared b l) b (smallest (length xs)) cleared-free cleared-left)
       ∙ before-second (fault-block b (length xs)) (fault-for (obtained b (smallest (length xs))) ns) e

@@ -36,11 +36,12 @@ module _ {T : Type 0} (s : Store T) (ok : Sound s) where
   pub hand-in : (4 * s .hand .start + 4 * units (s .hand .class) ≤ length (s .cells .now)) × (4 * s .hand .start + 4 * units (s .hand .class) ≤ 2 ^ 30)
   hand-in =
       elim (cases-lt 0 (s .hand .class)) [
-        inl p ↦ let u = units-pos (s .hand .class) p in let b = hand-below (view s) (ok .apart) u in (omega arith, omega arith)
-      | inr z ↦
-          let c : s .hand .class ≡ 0 = omega arith in
-          let u = ap units c ∙ none-units in
-          (omega arith, omega arith) ]
+        | inl p ↦ let u = units-pos (s .hand .class) p in let b = hand-below (view s) (ok .apart) u in (omega arith, omega arith)
+        | inr z ↦
+            let c : s .hand .class ≡ 0 = omega arith in
+            let u = ap units c ∙ none-units in
+            (omega arith, omega arith)
+      ]
 
   pub hand-long : length (held s .hand .items) ≡ s .hand .len
   unfolding held
@@ -68,14 +69,15 @@ module _ {T : Type 0} (s : Store T) (ok : Sound s) where
   list-in l =
       let f = ok .filled .1 l in
       elim (cases-lt 0 (getD (s .heads .now) l no-head .class)) [
-        inl p ↦
-          let u = units-pos (getD (s .heads .now) l no-head .class) p in
-          let b = listed-below (view s) (ok .apart) l u in
-          (omega arith, omega arith)
-      | inr z ↦
-          let c : getD (s .heads .now) l no-head .class ≡ 0 = omega arith in
-          let u = ap units c ∙ none-units in
-          (omega arith, omega arith) ]
+        | inl p ↦
+            let u = units-pos (getD (s .heads .now) l no-head .class) p in
+            let b = listed-below (view s) (ok .apart) l u in
+            (omega arith, omega arith)
+        | inr z ↦
+            let c : getD (s .heads .now) l no-head .class ≡ 0 = omega arith in
+            let u = ap units c ∙ none-units in
+            (omega arith, omega arith)
+      ]
 
   pub list-long : (l : ℕ) → length (getD (held s .lists) l nothing .items) ≡ getD (s .heads .now) l no-head .len
   list-long l =
@@ -130,8 +132,10 @@ opened-ready {s = s} n hs rs h u r =
         apart = subst Apart (sym v) (start-apart n 29 (s .links .now));
         filled = f;
         whole = subst Whole (sym v) (start-whole n 29 (s .links .now));
-        room = r };
-      empty = ap (λ x. x .class) h }
+        room = r;
+      };
+      empty = ap (λ x. x .class) h;
+    }
 
 -- what a ghost field holds, made into the record
 pub ready-from : {T : Type 0} {s : Store T} → Settled s → Ready s
@@ -160,4 +164,3 @@ list-fits s ok l =
     let k = ap units (class-of-is s (ok .sound) l) in
     let f = ok .sound .filled .1 l .0 in
     omega arith
-

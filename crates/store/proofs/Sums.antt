@@ -63,20 +63,22 @@ module _ {T : Type 0} (b : Bank T) (sized : length (b .free) ≡ 29) where
   had-units c e =
       let P : ℕ → Type 0 = λ d. (length (obtained b d .free) ≡ 29) × (freed-units 0 (obtained b d .free) + obtained b d .left + units d ≡ freed-units 0 (b .free) + b .left) in
       elim (cases-lt 0 c) [
-        inr z ↦
-          let q : c ≡ 0 = omega arith in
-          let o = obtained-none b c q in
-          let u = ap units q ∙ none-units in
-          let f = ap (λ x. freed-units 0 (x .free)) o in
-          let n = ap (λ x. length (x .free)) o in
-          let l = ap (λ x. x .left) o in
-          (omega arith, omega arith)
-      | inl h ↦
-          let s = had-size b c h e in
-          let q : c - 1 + 1 ≡ c = omega arith in
-          elim (cases-lt 0 (getD (b .free) (c - 1) 0)) [
-            inl p ↦ subst P q (had-freed (c - 1) (s .0) p)
-          | inr p ↦ subst P q (had-new (c - 1) p (s .1 p)) ] ]
+        | inr z ↦
+            let q : c ≡ 0 = omega arith in
+            let o = obtained-none b c q in
+            let u = ap units q ∙ none-units in
+            let f = ap (λ x. freed-units 0 (x .free)) o in
+            let n = ap (λ x. length (x .free)) o in
+            let l = ap (λ x. x .left) o in
+            (omega arith, omega arith)
+        | inl h ↦
+            let s = had-size b c h e in
+            let q : c - 1 + 1 ≡ c = omega arith in
+            elim (cases-lt 0 (getD (b .free) (c - 1) 0)) [
+              | inl p ↦ subst P q (had-freed (c - 1) (s .0) p)
+              | inr p ↦ subst P q (had-new (c - 1) p (s .1 p))
+            ]
+      ]
 
 -- a list that no longer has a block
 pub cleared-units : {T : Type 0} (b : Bank T) (l : ℕ) → length (b .free) ≡ 29 → l < length (b .lists) → class-of b l ≤ 29
@@ -106,8 +108,9 @@ pub record Lawful {T : Type 0} (u : ℕ) (b : Bank T) : Type 0 where
 good-set : {T : Type 0} (ls : List (Owned T)) (l : ℕ) (o : Owned T) → l < length ls → Good o → ((m : ℕ) → Good (getD ls m nothing)) → (m : ℕ) → Good (getD (set ls l o) m nothing)
 good-set ls l o h g all m =
     elim (cases-eq m l) [
-      inl e ↦ subst Good (sym (ap (λ n. getD (set ls l o) n nothing) e ∙ getD-set-same ls l o nothing h)) g
-    | inr ne ↦ subst Good (sym (getD-set-other ls l m o nothing ne)) (all m) ]
+      | inl e ↦ subst Good (sym (ap (λ n. getD (set ls l o) n nothing) e ∙ getD-set-same ls l o nothing h)) g
+      | inr ne ↦ subst Good (sym (getD-set-other ls l m o nothing ne)) (all m)
+    ]
 
 good-nothing : (T : Type 0) → Good {T = T} nothing
 good-nothing T = (omega arith, omega arith, λ p. absurd (omega arith))
@@ -121,7 +124,8 @@ module _ {T : Type 0} (u : ℕ) (b : Bank T) (l : ℕ) (ok : Lawful u b) (h : l 
       record {
         total = omega arith;
         sized = ok .sized;
-        good = good-set (b .lists) l (record { items = xs; class = class-of b l }) h (f, ok .good l .1, s) (ok .good) }
+        good = good-set (b .lists) l (record { items = xs; class = class-of b l }) h (f, ok .good l .1, s) (ok .good);
+      }
 
   pub lawful-cleared : Lawful u (cleared b l)
   unfolding cleared
@@ -190,9 +194,11 @@ had-class b c e =
 
 -- the smallest block that holds items is no empty one
 pub good-smallest : {T : Type 0} (xs : List T) → smallest (length xs) ≤ 29 → Good (record { items = xs; class = smallest (length xs) })
-good-smallest xs h =
-    (smallest-holds (length xs) h
-    , h
-    , λ p. elim (cases-lt 0 (length xs)) [
-        inl q ↦ q
-      | inr z ↦ let u = none-units in let l = smallest-least (length xs) 0 (omega arith) in absurd (omega arith) ])
+good-smallest xs h = (
+  smallest-holds (length xs) h,
+  h,
+  λ p. elim (cases-lt 0 (length xs)) [
+    | inl q ↦ q
+    | inr z ↦ let u = none-units in let l = smallest-least (length xs) 0 (omega arith) in absurd (omega arith)
+  ],
+)

@@ -66,8 +66,9 @@ unfolding swap-name
 swap-step v l h in-hand u o = (listed l, o, cond-true (eqb l l) in-hand (listed l) (eq-eqb l l refl))
 swap-step v l h (listed m) u o =
     elim (cases-eq m l) [
-      inl e ↦ (in-hand, subst (λ x. Block x u) (ap (λ n. getD (set (v .heads) l (v .hand)) n no-head) e ∙ getD-set-same (v .heads) l (v .hand) no-head h) o, ap listed (sym e))
-    | inr ne ↦ (listed m, subst (λ x. Block x u) (getD-set-other (v .heads) l m (v .hand) no-head ne) o, cond-false (eqb m l) in-hand (listed m) (ne-eqb m l ne)) ]
+      | inl e ↦ (in-hand, subst (λ x. Block x u) (ap (λ n. getD (set (v .heads) l (v .hand)) n no-head) e ∙ getD-set-same (v .heads) l (v .hand) no-head h) o, ap listed (sym e))
+      | inr ne ↦ (listed m, subst (λ x. Block x u) (getD-set-other (v .heads) l m (v .hand) no-head ne) o, cond-false (eqb m l) in-hand (listed m) (ne-eqb m l ne))
+    ]
 swap-step v l h (freed k i) u o = (freed k i, o, refl)
 swap-step v l h untouched u o = (untouched, o, refl)
 
@@ -77,8 +78,9 @@ swap-apart v l h apart = renamed v (swapped v l) (λ u. swap-name l) (swap-step 
 pub set-fits : (heads : List Head) (l : ℕ) (x : Head) → l < length heads → Fits x → ((m : ℕ) → Fits (getD heads m no-head)) → (m : ℕ) → Fits (getD (set heads l x) m no-head)
 set-fits heads l x h f all m =
     elim (cases-eq m l) [
-      inl e ↦ subst Fits (sym (ap (λ n. getD (set heads l x) n no-head) e ∙ getD-set-same heads l x no-head h)) f
-    | inr ne ↦ subst Fits (sym (getD-set-other heads l m x no-head ne)) (all m) ]
+      | inl e ↦ subst Fits (sym (ap (λ n. getD (set heads l x) n no-head) e ∙ getD-set-same heads l x no-head h)) f
+      | inr ne ↦ subst Fits (sym (getD-set-other heads l m x no-head ne)) (all m)
+    ]
 
 -- a count of a size, changed
 freed-set : (k : ℕ) (ns : List ℕ) (i m : ℕ) → i < length ns → freed-units k (set ns i m) + getD ns i 0 * 2 ^ (k + i) ≡ freed-units k ns + m * 2 ^ (k + i)
@@ -187,14 +189,18 @@ hand-outside v apart filled i m l p h =
     let x = getD (v .heads) l no-head in
     let fits = filled .1 l .0 in
     elim (cases-lt 0 (x .len)) [
-      inr z ↦ inr (inr (omega arith))
-    | inl z ↦ elim (cases-lt (x .start) (hand .start + units (hand .class))) [
-        inr b ↦ inl (omega arith)
-      | inl b ↦ elim (cases-lt (hand .start) (x .start + units (x .class))) [
-          inr e ↦ inr (inl (omega arith))
-        | inl e ↦ absurd (elim (cases-lt (hand .start) (x .start)) [
-            inl f ↦ held-is-not-listed l (one-owner v apart in-hand (listed l) (x .start) (omega arith, b) (omega arith, omega arith))
-          | inr f ↦ held-is-not-listed l (one-owner v apart in-hand (listed l) (hand .start) (omega arith, omega arith) (f, e)) ]) ] ] ]
+      | inr z ↦ inr (inr (omega arith))
+      | inl z ↦ elim (cases-lt (x .start) (hand .start + units (hand .class))) [
+        | inr b ↦ inl (omega arith)
+        | inl b ↦ elim (cases-lt (hand .start) (x .start + units (x .class))) [
+          | inr e ↦ inr (inl (omega arith))
+          | inl e ↦ absurd (elim (cases-lt (hand .start) (x .start)) [
+            | inl f ↦ held-is-not-listed l (one-owner v apart in-hand (listed l) (x .start) (omega arith, b) (omega arith, omega arith))
+            | inr f ↦ held-is-not-listed l (one-owner v apart in-hand (listed l) (hand .start) (omega arith, omega arith) (f, e))
+          ])
+        ]
+      ]
+    ]
 
 -- a link that no chain goes over does not matter
 walk-frame : (links : List ℕ) (s w : ℕ) (i at : ℕ) → ((j : ℕ) → j < i → walk links at j ≡ s → ⊥) → walk (set links s w) at i ≡ walk links at i
@@ -209,8 +215,8 @@ chain-frame : (v : View) → Apart v → (w m i : ℕ) → 0 < units (v .hand .c
 chain-frame v apart w m i p n =
     let q = pow-pos m in
     walk-frame (v .links) (v .hand .start) w i (getD (v .sizes) m no-record .first)
-      (λ j h e. freed-is-not-in-hand m j
-        (one-owner v apart (freed m j) in-hand (v .hand .start) (omega arith, (omega arith, omega arith)) (omega arith, omega arith)))
+    (λ j h e. freed-is-not-in-hand m j
+    (one-owner v apart (freed m j) in-hand (v .hand .start) (omega arith, (omega arith, omega arith)) (omega arith, omega arith)))
 
 -- the hand's block, put before the freed ones of its size k
 abbrev pub released : View → ℕ → View
@@ -220,7 +226,8 @@ released v k =
       heads = v .heads;
       links = set (v .links) (v .hand .start) (getD (v .sizes) k no-record .first);
       sizes = set (v .sizes) k (record { first = v .hand .start; count = getD (v .sizes) k no-record .count + 1 });
-      used = v .used }
+      used = v .used;
+    }
 
 release-name : ℕ → Owner → Owner
 release-name k in-hand = freed k 0
@@ -239,11 +246,12 @@ module _ (v : View) (k : ℕ) (apart : Apart v) (size : units (v .hand .class) �
   release-own zero u n o = (in-hand, subst (λ z. Within (v .hand .start) z u) (sym size) o, refl)
   release-own (suc j) u n o =
       let e : walk (released v k .links) (getD (released v k .links) (v .hand .start) 0) j ≡ walk (v .links) (getD (v .sizes) k no-record .first) j =
-          ap (λ x. walk (released v k .links) x j) (getD-set-same (v .links) (v .hand .start) (getD (v .sizes) k no-record .first) 0 in-links)
-          ∙ chain-frame v apart (getD (v .sizes) k no-record .first) k j some-units (omega arith) in
-      (freed k j
-      , (omega arith, subst (λ x. Within x (2 ^ k) u) e o)
-      , cond-true (eqb k k) (freed k (suc j)) (freed k j) (eq-eqb k k refl))
+      ap (λ x. walk (released v k .links) x j) (getD-set-same (v .links) (v .hand .start) (getD (v .sizes) k no-record .first) 0 in-links)
+      ∙ chain-frame v apart (getD (v .sizes) k no-record .first) k j some-units (omega arith) in (
+        freed k j,
+        (omega arith, subst (λ x. Within x (2 ^ k) u) e o),
+        cond-true (eqb k k) (freed k (suc j)) (freed k j) (eq-eqb k k refl),
+      )
 
   release-step : (a : Owner) (u : ℕ) → Owns (released v k) a u → (b : Owner) × Owns v b u × (release-name k b ≡ a)
   unfolding release-name
@@ -253,16 +261,18 @@ module _ (v : View) (k : ℕ) (apart : Apart v) (size : units (v .hand .class) �
       let F : ℕ → SizeRecord → Type 0 = λ n r. (i < r .count) × Within (walk (released v k .links) (r .first) i) (2 ^ n) u in
       let new : SizeRecord = record { first = v .hand .start; count = getD (v .sizes) k no-record .count + 1 } in
       elim (cases-eq m k) [
-        inl e ↦
-          let o1 : F k (getD (released v k .sizes) k no-record) = subst (λ n. F n (getD (released v k .sizes) n no-record)) e o in
-          let o2 : F k new = subst (F k) (getD-set-same (v .sizes) k new no-record in-sizes) o1 in
-          let r = release-own i u (o2 .0) (o2 .1) in
-          (r .0, r .1, r .2 ∙ ap (λ n. freed n i) (sym e))
-      | inr ne ↦
-          let o1 : F m (getD (v .sizes) m no-record) = subst (F m) (getD-set-other (v .sizes) k m new no-record ne) o in
-          (freed m i
-          , (o1 .0, subst (λ x. Within x (2 ^ m) u) (chain-frame v apart (getD (v .sizes) k no-record .first) m i some-units (o1 .0)) (o1 .1))
-          , cond-false (eqb m k) (freed m (suc i)) (freed m i) (ne-eqb m k ne)) ]
+        | inl e ↦
+            let o1 : F k (getD (released v k .sizes) k no-record) = subst (λ n. F n (getD (released v k .sizes) n no-record)) e o in
+            let o2 : F k new = subst (F k) (getD-set-same (v .sizes) k new no-record in-sizes) o1 in
+            let r = release-own i u (o2 .0) (o2 .1) in
+            (r .0, r .1, r .2 ∙ ap (λ n. freed n i) (sym e))
+        | inr ne ↦
+            let o1 : F m (getD (v .sizes) m no-record) = subst (F m) (getD-set-other (v .sizes) k m new no-record ne) o in (
+              freed m i,
+              (o1 .0, subst (λ x. Within x (2 ^ m) u) (chain-frame v apart (getD (v .sizes) k no-record .first) m i some-units (o1 .0)) (o1 .1)),
+              cond-false (eqb m k) (freed m (suc i)) (freed m i) (ne-eqb m k ne),
+            )
+      ]
   release-step untouched u o = (untouched, o, refl)
 
   pub release-apart : Apart (released v k)
@@ -284,7 +294,8 @@ reused v k =
       heads = v .heads;
       links = v .links;
       sizes = set (v .sizes) k (record { first = getD (v .links) (getD (v .sizes) k no-record .first) 0; count = getD (v .sizes) k no-record .count - 1 });
-      used = v .used }
+      used = v .used;
+    }
 
 reuse-name : ℕ → Owner → Owner
 reuse-name k in-hand = in-hand
@@ -307,13 +318,16 @@ module _ (v : View) (k : ℕ) (some-freed : 0 < getD (v .sizes) k no-record .cou
       let F : ℕ → SizeRecord → Type 0 = λ n r. (i < r .count) × Within (walk (v .links) (r .first) i) (2 ^ n) u in
       let new : SizeRecord = record { first = getD (v .links) (getD (v .sizes) k no-record .first) 0; count = getD (v .sizes) k no-record .count - 1 } in
       elim (cases-eq m k) [
-        inl e ↦
-          let o1 : F k (getD (reused v k .sizes) k no-record) = subst (λ n. F n (getD (reused v k .sizes) n no-record)) e o in
-          let o2 : F k new = subst (F k) (getD-set-same (v .sizes) k new no-record in-sizes) o1 in
-          (freed k (suc i), (omega (arith, o2 .0), o2 .1)
-          , cond-true (eqb k k) (freed k i) (freed k (suc i)) (eq-eqb k k refl) ∙ ap (λ n. freed n i) (sym e))
-      | inr ne ↦
-          (freed m i, subst (F m) (getD-set-other (v .sizes) k m new no-record ne) o, reuse-name-other k m i ne) ]
+        | inl e ↦
+            let o1 : F k (getD (reused v k .sizes) k no-record) = subst (λ n. F n (getD (reused v k .sizes) n no-record)) e o in
+            let o2 : F k new = subst (F k) (getD-set-same (v .sizes) k new no-record in-sizes) o1 in (
+              freed k (suc i),
+              (omega (arith, o2 .0), o2 .1),
+              cond-true (eqb k k) (freed k i) (freed k (suc i)) (eq-eqb k k refl) ∙ ap (λ n. freed n i) (sym e),
+            )
+        | inr ne ↦
+            (freed m i, subst (F m) (getD-set-other (v .sizes) k m new no-record ne) o, reuse-name-other k m i ne)
+      ]
   reuse-step untouched u o = (untouched, o, refl)
 
   pub reuse-apart : Apart v → Apart (reused v k)
@@ -395,8 +409,9 @@ units-most (suc k) h = let p : k ≤ 28 = omega arith in pow-mono p
 pub rep-at : {X : Type 0} (n i : ℕ) (d : X) → getD (replicate n d) i d ≡ d
 rep-at n i d =
     elim (cases-lt i n) [
-      inl h ↦ getD-replicate n i d d h
-    | inr h ↦ getD-past (replicate n d) i d (omega (arith, length-replicate n d)) ]
+      | inl h ↦ getD-replicate n i d d h
+      | inr h ↦ getD-past (replicate n d) i d (omega (arith, length-replicate n d))
+    ]
 
 pub rep-sum : {X : Type 0} (f : X → ℕ) (n : ℕ) (d : X) → f d ≡ 0 → sumBy f (replicate n d) ≡ 0
 rep-sum f zero d e = refl

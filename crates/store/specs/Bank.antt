@@ -58,8 +58,8 @@ takable b k = ltb 0 (getD (b .free) k 0) || leb (2 ^ k) (b .left)
 unfoldable pub taken : {T : Type 0} → Bank T → ℕ → Bank T
 taken b k =
     cond (ltb 0 (getD (b .free) k 0))
-      (record { lists = b .lists; free = set (b .free) k (getD (b .free) k 0 - 1); left = b .left })
-      (record { lists = b .lists; free = b .free; left = b .left - 2 ^ k })
+    (record { lists = b .lists; free = set (b .free) k (getD (b .free) k 0 - 1); left = b .left })
+    (record { lists = b .lists; free = b .free; left = b .left - 2 ^ k })
 
 -- the same by class, of which 0 asks for nothing and 29 is the last
 unfoldable pub obtainable : {T : Type 0} → Bank T → ℕ → Bool
@@ -165,7 +165,8 @@ bank s =
     record {
       lists = map (owned (now (s .cells))) (now (s .heads));
       free = map (λ r. r .count) (s .sizes .records);
-      left = s .limit - s .used }
+      left = s .limit - s .used;
+    }
 
 -- what there is to have of, for any lists
 abbrev pub stock : SizeTable → ℕ → Bank ℕ

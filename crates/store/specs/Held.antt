@@ -18,7 +18,8 @@ held s =
       hand = owned (now (s .cells)) (s .hand);
       lists = map (owned (now (s .cells))) (now (s .heads));
       free = map (λ r. r .count) (s .sizes .records);
-      left = s .limit - s .used }
+      left = s .limit - s .used;
+    }
 
 -- all but the hand
 abbrev pub shown : {T : Type 0} → Held T → Bank T
@@ -41,7 +42,8 @@ grasping h c =
       hand = record { items = []; class = c };
       lists = h .lists;
       free = obtained (shown h) c .free;
-      left = obtained (shown h) c .left }
+      left = obtained (shown h) c .left;
+    }
 
 -- the block in hand freed
 abbrev pub freeing : {T : Type 0} → Held T → Held T
@@ -54,4 +56,5 @@ settled h l =
       hand = nothing;
       lists = set (h .lists) l (h .hand);
       free = spared (h .free) (getD (h .lists) l nothing .class);
-      left = h .left }
+      left = h .left;
+    }

@@ -29,7 +29,15 @@ impl<'a, T: Copy> Store<'a, T> {
         let lists = heads.len().min(1 << 32);
         let heads = &mut heads[0..lists];
         wipe(heads);
-        Store { cells, links, heads, sizes: SizeTable::new(), hand: Head::EMPTY, limit, used: 0 }
+        Store {
+            cells,
+            links,
+            heads,
+            sizes: SizeTable::new(),
+            hand: Head::EMPTY,
+            limit,
+            used: 0,
+        }
     }
 
     // How many lists there are.

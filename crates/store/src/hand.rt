@@ -38,7 +38,11 @@ impl<'a, T: Copy> Store<'a, T> {
     {
         let hand = self.hand;
         put(self.cells, (4 * hand.start + hand.len) as usize, v);
-        self.hand = Head { start: hand.start, len: hand.len + 1, class: hand.class };
+        self.hand = Head {
+            start: hand.start,
+            len: hand.len + 1,
+            class: hand.class,
+        };
     }
 
     // Another item at a place in hand.
@@ -62,7 +66,11 @@ impl<'a, T: Copy> Store<'a, T> {
     {
         let hand = self.hand;
         fill(self.cells, 4 * hand.start as usize, xs);
-        self.hand = Head { start: hand.start, len: xs.len() as u32, class: hand.class };
+        self.hand = Head {
+            start: hand.start,
+            len: xs.len() as u32,
+            class: hand.class,
+        };
     }
 
     // The items of a list in hand, too.
@@ -76,8 +84,17 @@ impl<'a, T: Copy> Store<'a, T> {
     {
         let head = self.heads[l as usize];
         let hand = self.hand;
-        shift(self.cells, 4 * head.start as usize, head.len as usize, 4 * hand.start as usize);
-        self.hand = Head { start: hand.start, len: head.len, class: hand.class };
+        shift(
+            self.cells,
+            4 * head.start as usize,
+            head.len as usize,
+            4 * hand.start as usize,
+        );
+        self.hand = Head {
+            start: hand.start,
+            len: head.len,
+            class: hand.class,
+        };
     }
 
     // An item taken out of the hand, and the gap closed.
@@ -90,7 +107,11 @@ impl<'a, T: Copy> Store<'a, T> {
         let hand = self.hand;
         let at = 4 * hand.start as usize + i as usize;
         shift(self.cells, at + 1, (hand.len - i - 1) as usize, at);
-        self.hand = Head { start: hand.start, len: hand.len - 1, class: hand.class };
+        self.hand = Head {
+            start: hand.start,
+            len: hand.len - 1,
+            class: hand.class,
+        };
     }
 
     // One item fewer in hand.
@@ -101,7 +122,11 @@ impl<'a, T: Copy> Store<'a, T> {
         ensures holds { λ _. ⌜ held (now (self .exit)) ≡ filling (held (now (self .entry))) (take (length (held (now (self .entry)) .hand .items) - 1) (held (now (self .entry)) .hand .items)) ⌝ }
     {
         let hand = self.hand;
-        self.hand = Head { start: hand.start, len: hand.len - 1, class: hand.class };
+        self.hand = Head {
+            start: hand.start,
+            len: hand.len - 1,
+            class: hand.class,
+        };
     }
 
     // Frees the block in hand.
@@ -129,7 +154,11 @@ impl<'a, T: Copy> Store<'a, T> {
         let block = self.sizes.record_of(k).first;
         let next = self.links[block as usize];
         self.sizes.pop(k, next);
-        self.hand = Head { start: block, len: 0, class: k + 1 };
+        self.hand = Head {
+            start: block,
+            len: 0,
+            class: k + 1,
+        };
     }
 
     // Takes untouched cells into the hand, as a block of a size of which none is freed.
@@ -143,7 +172,11 @@ impl<'a, T: Copy> Store<'a, T> {
         ensures holds { λ _. ⌜ held (now (self .exit)) ≡ grasping (held (now (self .entry))) (k + 1) ⌝ }
     {
         let size = units_of(k + 1);
-        self.hand = Head { start: self.used, len: 0, class: k + 1 };
+        self.hand = Head {
+            start: self.used,
+            len: 0,
+            class: k + 1,
+        };
         self.used += size;
     }
 

@@ -40,7 +40,11 @@ impl<'a, T: Copy> Store<'a, T> {
         ensures says { λ r. ⌜ r ≡ judged (fault-list (bank (now (self .entry))) l) ⌝ }
         ensures within { λ r. ⌜ elim r [ Ok _ ↦ l < length (bank (now (self .entry)) .lists) | Err _ ↦ Unit {0} ] ⌝ }
     {
-        if (l as usize) < self.heads.len() { Ok(()) } else { Err(PoolFault::Unknown(l)) }
+        if (l as usize) < self.heads.len() {
+            Ok(())
+        } else {
+            Err(PoolFault::Unknown(l))
+        }
     }
 
     // Whether a list has a place.

@@ -1,10 +1,10 @@
 pub mod calls;
+mod cells;
+mod classes;
 pub mod faults;
+mod hand;
+mod judges;
 pub mod parts;
 pub mod sizes;
 pub mod store;
-mod cells;
-mod classes;
-mod hand;
-mod judges;
 mod supply;

@@ -9,7 +9,11 @@ pub struct Head {
 
 impl Head {
     // An empty list.
-    pub const EMPTY: Head = Head { start: 0, len: 0, class: 0 };
+    pub const EMPTY: Head = Head {
+        start: 0,
+        len: 0,
+        class: 0,
+    };
 }
 
 // Why a pool refuses: a list number or a place that does not exist, or a block that cannot be had.

@@ -44,7 +44,9 @@ impl SizeTable {
     pub(crate) fn new() -> Self
         ensures { λ r. ⌜ r .records ≡ replicate 29 no-record ⌝ }
     {
-        SizeTable { records: [SizeRecord { first: 0, count: 0 }; 29] }
+        SizeTable {
+            records: [SizeRecord { first: 0, count: 0 }; 29],
+        }
     }
 
     // The record of a size.

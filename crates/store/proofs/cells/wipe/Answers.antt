@@ -19,4 +19,4 @@ returns c =
     let n = length (c .args .heads .now) in
     let e = length-replicate n no-head in
     ext-getD no-head (c .loop-head .heads) (replicate n no-head) (omega arith)
-      (λ i h. c .loop-head .inv i (omega arith) ∙ sym (getD-replicate n i no-head no-head (omega arith)))
+    (λ i h. c .loop-head .inv i (omega arith) ∙ sym (getD-replicate n i no-head no-head (omega arith)))

@@ -32,10 +32,10 @@ returns-then-record-of-gt0 c =
     let w : (c .args .class - 1) + 1 ≡ c .args .class = omega arith in
     let o = ap (obtained b) (sym w) ∙ obtained-freed b k (omega arith) in
     same-bank refl
-      (ap (map (λ x. x .count)) (c .pop .ensures)
-        ∙ (map-set (λ x. x .count) rs k (record { first = 0; count = getD rs k no-record .count - 1 })
-        ∙ ap (λ m. set (map (λ x. x .count) rs) k (m - 1)) (sym n)))
-      refl
+    (ap (map (λ x. x .count)) (c .pop .ensures)
+    ∙ (map-set (λ x. x .count) rs k (record { first = 0; count = getD rs k no-record .count - 1 })
+    ∙ ap (λ m. set (map (λ x. x .count) rs) k (m - 1)) (sym n)))
+    refl
     ∙ sym o
 
 pub units-of-requires : need.units-of-requires

@@ -21,16 +21,19 @@ grow-requires g c κs =
     record {
       ready = c .pre .ready;
       within = h;
-      had = none-block b (length (items-of b l) + 1) (sym (push-grows b l h (sym (c .if-is-roomy .ensures tt))) ∙ c .pre .fits) }
+      had = none-block b (length (items-of b l) + 1) (sym (push-grows b l h (sym (c .if-is-roomy .ensures tt))) ∙ c .pre .fits);
+    }
 
 pub returns-then-is-roomy : need.returns-then-is-roomy
 returns-then-is-roomy g c =
     record {
       ready = c .append-within .ensures .ready;
-      holds = c .append-within .ensures .holds ∙ sym (pushed-within (bank (c .args .self .now)) (c .args .l) (c .args .v) (sym (c .if-is-roomy .ensures tt))) }
+      holds = c .append-within .ensures .holds ∙ sym (pushed-within (bank (c .args .self .now)) (c .args .l) (c .args .v) (sym (c .if-is-roomy .ensures tt)));
+    }
 
 pub returns-else-is-roomy : need.returns-else-is-roomy
 returns-else-is-roomy g c =
     record {
       ready = c .grow .ensures .ready;
-      holds = c .grow .ensures .holds ∙ sym (pushed-grown (bank (c .args .self .now)) (c .args .l) (c .args .v) (sym (c .if-is-roomy .ensures tt))) }
+      holds = c .grow .ensures .holds ∙ sym (pushed-grown (bank (c .args .self .now)) (c .args .l) (c .args .v) (sym (c .if-is-roomy .ensures tt)));
+    }

@@ -42,11 +42,12 @@ returns g c =
     let k = ap length e ∙ length-set (s .cells .now) (4 * s .hand .start + s .hand .len) (c .args .v) in
     record {
       sound = sounds
-        (resize-apart (view s) (s .hand .len + 1) (ok .apart))
-        ((omega arith, ok .filled .0 .1, ok .filled .0 .2), ok .filled .1)
-        (ok .whole)
-        (omega arith, ok .room .1, ok .room .2, ok .room .3, ok .room .4);
+          (resize-apart (view s) (s .hand .len + 1) (ok .apart))
+          ((omega arith, ok .filled .0 .1, ok .filled .0 .2), ok .filled .1)
+          (ok .whole)
+          (omega arith, ok .room .1, ok .room .2, ok .room .3, ok .room .4);
       holds = same-held
-        (ap (λ ys. owned ys (record { start = s .hand .start; len = s .hand .len + 1; class = s .hand .class })) e ∙ append-hand (s .cells .now) (s .hand) (c .args .v) (omega arith))
-        (ap (λ ys. map (owned ys) (s .heads .now)) e ∙ lists-kept-one (s .cells .now) (c .args .v) (view s) (s .hand .len) (ok .apart) (ok .filled) r (omega arith))
-        refl refl }
+          (ap (λ ys. owned ys (record { start = s .hand .start; len = s .hand .len + 1; class = s .hand .class })) e ∙ append-hand (s .cells .now) (s .hand) (c .args .v) (omega arith))
+          (ap (λ ys. map (owned ys) (s .heads .now)) e ∙ lists-kept-one (s .cells .now) (c .args .v) (view s) (s .hand .len) (ok .apart) (ok .filled) r (omega arith))
+          refl refl;
+    }

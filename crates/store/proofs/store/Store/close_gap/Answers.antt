@@ -48,13 +48,14 @@ returns g c =
     let k = ap length e ∙ length-paste (s .cells .now) (4 * s .hand .start + i) (drop (4 * s .hand .start + i + 1) (s .cells .now)) (s .hand .len - i - 1) (omega arith) (omega arith) in
     record {
       sound = sounds
-        (resize-apart (view s) (s .hand .len - 1) (ok .apart))
-        ((omega arith, ok .filled .0 .1, ok .filled .0 .2), ok .filled .1)
-        (ok .whole)
-        (omega arith, ok .room .1, ok .room .2, ok .room .3, ok .room .4);
+          (resize-apart (view s) (s .hand .len - 1) (ok .apart))
+          ((omega arith, ok .filled .0 .1, ok .filled .0 .2), ok .filled .1)
+          (ok .whole)
+          (omega arith, ok .room .1, ok .room .2, ok .room .3, ok .room .4);
       holds = same-held
-        (ap (λ ys. owned ys (record { start = s .hand .start; len = s .hand .len - 1; class = s .hand .class })) e
+          (ap (λ ys. owned ys (record { start = s .hand .start; len = s .hand .len - 1; class = s .hand .class })) e
           ∙ gap-hand (s .cells .now) (s .hand) i (omega arith) r)
-        (ap (λ ys. map (owned ys) (s .heads .now)) e
+          (ap (λ ys. map (owned ys) (s .heads .now)) e
           ∙ lists-kept (s .cells .now) (drop (4 * s .hand .start + i + 1) (s .cells .now)) (view s) i (s .hand .len - i - 1) (ok .apart) (ok .filled) (omega arith) (omega arith) (omega arith) (omega arith))
-        refl refl }
+          refl refl;
+    }

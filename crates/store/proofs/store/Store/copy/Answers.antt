@@ -20,7 +20,8 @@ settle-requires g c κs =
     let h = copy-known b (c .args .from) (c .args .to) (c .pre .fits) in
     record {
       sound = c .pre .ready .sound;
-      within = write-known b (c .args .to) (length (items-of b (c .args .from))) (sym (copy-write b (c .args .from) (c .args .to) h) ∙ c .pre .fits) }
+      within = write-known b (c .args .to) (length (items-of b (c .args .from))) (sym (copy-write b (c .args .from) (c .args .to) h) ∙ c .pre .fits);
+    }
 
 pub index-self-to : need.index-self-to
 index-self-to g c =
@@ -51,7 +52,8 @@ copy-anew-requires g c κs =
       within = p;
       some = omega arith;
       had = ap (obtainable b) e ∙ o;
-      room = subst (λ m. length (items-of (bank (c .args .self .now)) (c .args .from)) ≤ 4 * units m) (sym e) r }
+      room = subst (λ m. length (items-of (bank (c .args .self .now)) (c .args .from)) ≤ 4 * units m) (sym e) r;
+    }
 
 pub copy-over-requires : need.copy-over-requires
 copy-over-requires g c κs =
@@ -73,7 +75,8 @@ copy-over-requires g c κs =
       within = write-known b (c .args .to) n w;
       other = c .if-from-to .taken;
       some = omega arith;
-      room = omega arith }
+      room = omega arith;
+    }
 
 pub returns-then-class-eq0 : need.returns-then-class-eq0
 returns-then-class-eq0 g c =
@@ -91,8 +94,9 @@ returns-then-class-self g c =
     record {
       ready = c .copy-anew .ensures .ready;
       holds = c .copy-anew .ensures .holds
-        ∙ (ap (λ n. holding (cleared (obtained (bank s) n) (c .args .to)) (c .args .to) (items-of (bank s) (c .args .from)) n) e
-        ∙ sym (written-move (bank s) (c .args .to) xs (λ q. c .if-class-self .taken (e ∙ (q ∙ k))))) }
+          ∙ (ap (λ n. holding (cleared (obtained (bank s) n) (c .args .to)) (c .args .to) (items-of (bank s) (c .args .from)) n) e
+          ∙ sym (written-move (bank s) (c .args .to) xs (λ q. c .if-class-self .taken (e ∙ (q ∙ k)))));
+    }
 
 pub returns-then-from-to : need.returns-then-from-to
 returns-then-from-to g c =
@@ -103,7 +107,8 @@ returns-then-from-to g c =
     let e = sym (c .class-for-class .ensures ∙ ap smallest (c .len .ensures)) ∙ (c .if-class-self .left ∙ sym k) in
     record {
       ready = c .copy-over .ensures .ready;
-      holds = c .copy-over .ensures .holds ∙ sym (written-own (bank s) (c .args .to) (items-of (bank s) (c .args .from)) (free-many s ok) (omega arith) e) }
+      holds = c .copy-over .ensures .holds ∙ sym (written-own (bank s) (c .args .to) (items-of (bank s) (c .args .from)) (free-many s ok) (omega arith) e);
+    }
 
 pub returns-else-from-to : need.returns-else-from-to
 returns-else-from-to g c =
@@ -116,4 +121,5 @@ returns-else-from-to g c =
     record {
       ready = c .pre .ready;
       holds = sym (written-own (bank s) (c .args .to) (items-of (bank s) (c .args .from)) (free-many s ok) (omega arith) e
-        ∙ (ap (λ xs. holding (bank s) (c .args .to) xs (class-of (bank s) (c .args .to))) same ∙ held-same (bank s) (c .args .to))) }
+          ∙ (ap (λ xs. holding (bank s) (c .args .to) xs (class-of (bank s) (c .args .to))) same ∙ held-same (bank s) (c .args .to)));
+    }

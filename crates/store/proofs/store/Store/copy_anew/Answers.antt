@@ -19,7 +19,8 @@ copy-to-hand-requires g c κs =
       sound = c .take-hand .ensures .sound;
       within = subst (λ h. c .args .from < length (h .lists)) e (c .pre .known);
       some = subst (λ h. 0 < h .hand .class) e (c .pre .some);
-      room = subst (λ h. length (getD (h .lists) (c .args .from) nothing .items) ≤ 4 * units (h .hand .class)) e (c .pre .room) }
+      room = subst (λ h. length (getD (h .lists) (c .args .from) nothing .items) ≤ 4 * units (h .hand .class)) e (c .pre .room);
+    }
 
 pub settle-requires : need.settle-requires
 unfolding bank held
@@ -32,6 +33,6 @@ unfolding bank held
 returns g c =
     let s = c .args .self .now in
     let e = c .settle .ensures .holds
-        ∙ ap (λ h. settled h (c .args .to)) (c .copy-to-hand .ensures .holds ∙ ap (λ h. filling h (getD (h .lists) (c .args .from) nothing .items)) (c .take-hand .ensures .holds)) in
+    ∙ ap (λ h. settled h (c .args .to)) (c .copy-to-hand .ensures .holds ∙ ap (λ h. filling h (getD (h .lists) (c .args .from) nothing .items)) (c .take-hand .ensures .holds)) in
     let r = moved s (c .settle .last .self) (c .args .to) (c .args .class) (items-of (bank s) (c .args .from)) (c .settle .ensures .sound) (c .settle .ensures .empty) e in
     record { ready = r .0; holds = r .1 }

@@ -23,7 +23,8 @@ copy-to-hand-requires g c κs =
       sound = c .swap-hand .ensures .sound;
       within = subst (λ h. c .args .from < length (h .lists)) e (still-in (held s .lists) (c .args .to) (c .args .from) (held s .hand) (c .pre .known));
       some = subst (λ h. 0 < h .hand .class) e (c .pre .some);
-      room = subst (λ h. length (getD (h .lists) (c .args .from) nothing .items) ≤ 4 * units (h .hand .class)) e (subst (λ x. length (x .items) ≤ 4 * units (class-of (bank s) (c .args .to))) (sym o) (c .pre .room)) }
+      room = subst (λ h. length (getD (h .lists) (c .args .from) nothing .items) ≤ 4 * units (h .hand .class)) e (subst (λ x. length (x .items) ≤ 4 * units (class-of (bank s) (c .args .to))) (sym o) (c .pre .room));
+    }
 
 pub swap-hand-requires-2 : need.swap-hand-requires-2
 unfolding bank held
@@ -32,7 +33,8 @@ swap-hand-requires-2 g c κs =
     let e = c .copy-to-hand .ensures .holds ∙ ap (λ h. filling h (getD (h .lists) (c .args .from) nothing .items)) (c .swap-hand .ensures .holds) in
     record {
       sound = c .copy-to-hand .ensures .sound;
-      within = subst (λ h. c .args .to < length (h .lists)) (sym e) (still-in (held s .lists) (c .args .to) (c .args .to) (held s .hand) (c .pre .within)) }
+      within = subst (λ h. c .args .to < length (h .lists)) (sym e) (still-in (held s .lists) (c .args .to) (c .args .to) (held s .hand) (c .pre .within));
+    }
 
 pub returns : need.returns
 unfolding bank held
@@ -40,7 +42,7 @@ returns g c =
     let s = c .args .self .now in
     let o = getD-set-other (held s .lists) (c .args .to) (c .args .from) (held s .hand) nothing (c .pre .other) in
     let e = c .swap-hand-2 .ensures .holds
-        ∙ ap (λ h. exchange h (c .args .to)) (c .copy-to-hand .ensures .holds ∙ (ap (λ h. filling h (getD (h .lists) (c .args .from) nothing .items)) (c .swap-hand .ensures .holds)
-        ∙ ap (λ x. filling (exchange (held s) (c .args .to)) (x .items)) o)) in
+    ∙ ap (λ h. exchange h (c .args .to)) (c .copy-to-hand .ensures .holds ∙ (ap (λ h. filling h (getD (h .lists) (c .args .from) nothing .items)) (c .swap-hand .ensures .holds)
+    ∙ ap (λ x. filling (exchange (held s) (c .args .to)) (x .items)) o)) in
     let r = relisted s (c .swap-hand-2 .last .self) (c .args .to) (items-of (bank s) (c .args .from)) (c .pre .within) (c .pre .ready) (c .swap-hand-2 .ensures .sound) e in
     record { ready = r .0; holds = r .1 }

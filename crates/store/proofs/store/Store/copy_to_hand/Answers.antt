@@ -43,13 +43,14 @@ returns g c =
     let k = ap length e ∙ length-paste (s .cells .now) (4 * s .hand .start) (drop (4 * x .start) (s .cells .now)) (x .len) (omega arith) (omega arith) in
     record {
       sound = sounds
-        (resize-apart (view s) (x .len) (ok .apart))
-        ((omega arith, ok .filled .0 .1, ok .filled .0 .2), ok .filled .1)
-        (ok .whole)
-        (omega arith, ok .room .1, ok .room .2, ok .room .3, ok .room .4);
+          (resize-apart (view s) (x .len) (ok .apart))
+          ((omega arith, ok .filled .0 .1, ok .filled .0 .2), ok .filled .1)
+          (ok .whole)
+          (omega arith, ok .room .1, ok .room .2, ok .room .3, ok .room .4);
       holds = same-held
-        (ap (λ ys. owned ys (record { start = s .hand .start; len = x .len; class = s .hand .class })) e
+          (ap (λ ys. owned ys (record { start = s .hand .start; len = x .len; class = s .hand .class })) e
           ∙ (load-hand (s .cells .now) (drop (4 * x .start) (s .cells .now)) (s .hand .start) (x .len) (s .hand .class) (omega arith) (omega arith)
           ∙ ap (λ o. record { items = o .items; class = s .hand .class }) (sym (list-is s ok l))))
-        (ap (λ ys. map (owned ys) (s .heads .now)) e ∙ lists-kept-from (s .cells .now) (drop (4 * x .start) (s .cells .now)) (view s) (x .len) (ok .apart) (ok .filled) u (omega arith) (omega arith) (omega arith))
-        refl refl }
+          (ap (λ ys. map (owned ys) (s .heads .now)) e ∙ lists-kept-from (s .cells .now) (drop (4 * x .start) (s .cells .now)) (view s) (x .len) (ok .apart) (ok .filled) u (omega arith) (omega arith) (omega arith))
+          refl refl;
+    }

@@ -20,7 +20,8 @@ returns g c =
     let b = hand-in s ok in
     record {
       sound = sounds (resize-apart (view s) (s .hand .len - 1) (ok .apart)) ((omega arith, ok .filled .0 .1, ok .filled .0 .2), ok .filled .1) (ok .whole) (ok .room);
-      holds = same-held (cut-hand (s .cells .now) (s .hand) (omega arith)) refl refl refl }
+      holds = same-held (cut-hand (s .cells .now) (s .hand) (omega arith)) refl refl refl;
+    }
 
 pub sub-self : need.sub-self
 sub-self g c = let n = hand-long (c .args .self .now) (c .pre .sound) in search needs

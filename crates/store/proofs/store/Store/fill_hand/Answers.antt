@@ -34,13 +34,14 @@ returns g c =
     let k = ap length e ∙ length-paste (s .cells .now) (4 * s .hand .start) xs (length xs) (omega arith) (omega arith) in
     record {
       sound = sounds
-        (resize-apart (view s) (length xs) (ok .apart))
-        ((omega arith, ok .filled .0 .1, ok .filled .0 .2), ok .filled .1)
-        (ok .whole)
-        (omega arith, ok .room .1, ok .room .2, ok .room .3, ok .room .4);
+          (resize-apart (view s) (length xs) (ok .apart))
+          ((omega arith, ok .filled .0 .1, ok .filled .0 .2), ok .filled .1)
+          (ok .whole)
+          (omega arith, ok .room .1, ok .room .2, ok .room .3, ok .room .4);
       holds = same-held
-        (ap (λ ys. owned ys (record { start = s .hand .start; len = length xs; class = s .hand .class })) e
+          (ap (λ ys. owned ys (record { start = s .hand .start; len = length xs; class = s .hand .class })) e
           ∙ (load-hand (s .cells .now) xs (s .hand .start) (length xs) (s .hand .class) (omega arith) (omega arith)
           ∙ ap (λ ys. record { items = ys; class = s .hand .class }) (take-all (length xs) xs (omega arith))))
-        (ap (λ ys. map (owned ys) (s .heads .now)) e ∙ lists-kept-from (s .cells .now) xs (view s) (length xs) (ok .apart) (ok .filled) u (omega arith) (omega arith) (omega arith))
-        refl refl }
+          (ap (λ ys. map (owned ys) (s .heads .now)) e ∙ lists-kept-from (s .cells .now) xs (view s) (length xs) (ok .apart) (ok .filled) u (omega arith) (omega arith) (omega arith))
+          refl refl;
+    }

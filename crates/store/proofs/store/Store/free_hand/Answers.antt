@@ -44,13 +44,14 @@ returns g c =
     let w = is-released v (s .hand .class - 1) (c .push-next .result) (c .push-next .last .self .records) (c .push-next .ensures .next) (c .push-next .ensures .after) in
     record {
       sound = sounds
-        (subst Apart (sym w) (release-apart v (s .hand .class - 1) (ok .apart) u k l))
-        ((omega arith, omega arith, omega arith), ok .filled .1)
-        (subst Whole (sym w) (release-whole v (s .hand .class - 1) (ok .apart) u k l (ok .whole)))
-        (ok .room .0, simp length-set (ok .room .1), ok .room .2, ok .room .3, ap length (c .push-next .ensures .after) ∙ (length-set _ _ _ ∙ ok .room .4));
+          (subst Apart (sym w) (release-apart v (s .hand .class - 1) (ok .apart) u k l))
+          ((omega arith, omega arith, omega arith), ok .filled .1)
+          (subst Whole (sym w) (release-whole v (s .hand .class - 1) (ok .apart) u k l (ok .whole)))
+          (ok .room .0, simp length-set (ok .room .1), ok .room .2, ok .room .3, ap length (c .push-next .ensures .after) ∙ (length-set _ _ _ ∙ ok .room .4));
       holds = same-held refl refl
-        (ap (map (λ x. x .count)) (c .push-next .ensures .after)
+          (ap (map (λ x. x .count)) (c .push-next .ensures .after)
           ∙ (map-set (λ x. x .count) (s .sizes .records) (s .hand .class - 1) (record { first = s .hand .start; count = getD (s .sizes .records) (s .hand .class - 1) no-record .count + 1 })
           ∙ (ap (λ n. set (map (λ x. x .count) (s .sizes .records)) (s .hand .class - 1) (n + 1)) (sym (count-at (s .sizes .records) (s .hand .class - 1)))
           ∙ sym (spared-some (map (λ x. x .count) (s .sizes .records)) (s .hand .class) (c .pre .some)))))
-        refl }
+          refl;
+    }

@@ -18,7 +18,7 @@ take-hand-requires g c κs =
     let n = ap (λ m. m + 1) (c .len .ensures) in
     let k : c .class-for .result ≡ smallest (length (items-of (bank (c .args .self .now)) (c .args .l)) + 1) = c .class-for .ensures ∙ ap smallest n in
     let z : 0 < smallest (length (items-of (bank (c .args .self .now)) (c .args .l)) + 1) =
-        smallest-some (length (items-of (bank s) (c .args .l)) + 1) (omega arith) in
+    smallest-some (length (items-of (bank s) (c .args .l)) + 1) (omega arith) in
     record { sound = c .pre .ready .sound; empty = c .pre .ready .empty; some = omega arith; had = ap (obtainable (bank s)) k ∙ c .pre .had }
 
 pub copy-to-hand-requires : need.copy-to-hand-requires
@@ -38,7 +38,8 @@ copy-to-hand-requires g c κs =
       sound = c .take-hand .ensures .sound;
       within = subst (λ h. c .args .l < length (h .lists)) e (c .pre .within);
       some = subst (λ h. 0 < h .hand .class) e (omega arith);
-      room = subst (λ h. length (getD (h .lists) (c .args .l) nothing .items) ≤ 4 * units (h .hand .class)) e p }
+      room = subst (λ h. length (getD (h .lists) (c .args .l) nothing .items) ≤ 4 * units (h .hand .class)) e p;
+    }
 
 pub append-hand-requires : need.append-hand-requires
 unfolding bank held
@@ -58,7 +59,7 @@ pub settle-requires : need.settle-requires
 unfolding bank held
 settle-requires g c κs =
     let e = c .append-hand .ensures .holds ∙ ap (λ h. filling h (h .hand .items ++ c .args .v ∷ []))
-        (c .copy-to-hand .ensures .holds ∙ ap (λ h. filling h (getD (h .lists) (c .args .l) nothing .items)) (c .take-hand .ensures .holds)) in
+    (c .copy-to-hand .ensures .holds ∙ ap (λ h. filling h (getD (h .lists) (c .args .l) nothing .items)) (c .take-hand .ensures .holds)) in
     record { sound = c .append-hand .ensures .sound; within = subst (λ h. c .args .l < length (h .lists)) (sym e) (c .pre .within) }
 
 pub returns : need.returns
@@ -67,9 +68,10 @@ returns g c =
     let s = c .args .self .now in
     let xs = items-of (bank s) (c .args .l) in
     let e = c .settle .ensures .holds ∙ ap (λ h. settled h (c .args .l)) (c .append-hand .ensures .holds ∙ ap (λ h. filling h (h .hand .items ++ c .args .v ∷ []))
-        (c .copy-to-hand .ensures .holds ∙ ap (λ h. filling h (getD (h .lists) (c .args .l) nothing .items)) (c .take-hand .ensures .holds))) in
+    (c .copy-to-hand .ensures .holds ∙ ap (λ h. filling h (getD (h .lists) (c .args .l) nothing .items)) (c .take-hand .ensures .holds))) in
     let k = c .class-for .ensures ∙ ap smallest (ap (λ i. i + 1) (c .len .ensures) ∙ sym (length-push xs (c .args .v))) in
     let r = moved s (c .settle .last .self) (c .args .l) (c .class-for .result) (items-of (bank s) (c .args .l) ++ c .args .v ∷ []) (c .settle .ensures .sound) (c .settle .ensures .empty) e in
     record {
       ready = r .0;
-      holds = r .1 ∙ ap (λ n. holding (cleared (obtained (bank s) n) (c .args .l)) (c .args .l) (items-of (bank s) (c .args .l) ++ c .args .v ∷ []) n) k }
+      holds = r .1 ∙ ap (λ n. holding (cleared (obtained (bank s) n) (c .args .l)) (c .args .l) (items-of (bank s) (c .args .l) ++ c .args .v ∷ []) n) k;
+    }

@@ -20,6 +20,7 @@ returns g c =
     record {
       ready = opened-ready (min (length (c .args .heads .now)) 4294967296) hs (c .new .ensures) refl refl (omega arith, omega arith, omega arith, omega arith, ap length (c .new .ensures));
       holds = same-bank
-        (ap (map (owned (c .args .cells .now))) hs ∙ start-lists (c .args .cells .now) (min (length (c .args .heads .now)) 4294967296))
-        (ap (map (λ x. x .count)) (c .new .ensures))
-        (omega arith) }
+          (ap (map (owned (c .args .cells .now))) hs ∙ start-lists (c .args .cells .now) (min (length (c .args .heads .now)) 4294967296))
+          (ap (map (λ x. x .count)) (c .new .ensures))
+          (omega arith);
+    }

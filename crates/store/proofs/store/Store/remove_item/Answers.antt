@@ -30,4 +30,5 @@ returns-else-len-eq1 g c =
     let n = length-removed xs (c .args .i) (c .pre .below) in
     record {
       ready = c .remove-within .ensures .ready;
-      holds = c .remove-within .ensures .holds ∙ sym (shortened-some (bank s) (c .args .l) (removed xs (c .args .i)) (omega arith)) }
+      holds = c .remove-within .ensures .holds ∙ sym (shortened-some (bank s) (c .args .l) (removed xs (c .args .i)) (omega arith));
+    }

@@ -24,13 +24,14 @@ swap-hand-requires-2 g c κs =
     let s = c .args .self .now in
     record {
       sound = c .close-gap .ensures .sound;
-      within = subst (λ h. c .args .l < length (h .lists)) (sym e) (still-in (held s .lists) (c .args .l) (c .args .l) (held s .hand) (c .pre .within)) }
+      within = subst (λ h. c .args .l < length (h .lists)) (sym e) (still-in (held s .lists) (c .args .l) (c .args .l) (held s .hand) (c .pre .within));
+    }
 
 pub returns : need.returns
 unfolding bank held
 returns g c =
     let s = c .args .self .now in
     let e = c .swap-hand-2 .ensures .holds
-        ∙ ap (λ h. exchange h (c .args .l)) (c .close-gap .ensures .holds ∙ ap (λ h. filling h (removed (h .hand .items) (c .args .i))) (c .swap-hand .ensures .holds)) in
+    ∙ ap (λ h. exchange h (c .args .l)) (c .close-gap .ensures .holds ∙ ap (λ h. filling h (removed (h .hand .items) (c .args .i))) (c .swap-hand .ensures .holds)) in
     let r = relisted s (c .swap-hand-2 .last .self) (c .args .l) (removed (items-of (bank s) (c .args .l)) (c .args .i)) (c .pre .within) (c .pre .ready) (c .swap-hand-2 .ensures .sound) e in
     record { ready = r .0; holds = r .1 }

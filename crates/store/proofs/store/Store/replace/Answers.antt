@@ -17,7 +17,8 @@ fill-hand-requires g c κs =
     record {
       sound = c .take-hand .ensures .sound;
       some = subst (λ h. 0 < h .hand .class) e (c .pre .some);
-      room = subst (λ h. length (c .args .xs .now) ≤ 4 * units (h .hand .class)) e (c .pre .room) }
+      room = subst (λ h. length (c .args .xs .now) ≤ 4 * units (h .hand .class)) e (c .pre .room);
+    }
 
 pub settle-requires : need.settle-requires
 unfolding bank held

@@ -21,7 +21,7 @@ returns-then-class-for-self g c =
     let f = ok .filled .1 (c .args .l) .1 in
     let e = sym (c .class-for .ensures) ∙ (c .if-class-for-self .taken ∙ sym k) in
     sym (ap judged (write-block (bank s) (c .args .l) (c .args .n) (omega arith)
-      ∙ own-block (bank s) (c .args .l) (free-many s ok) (omega arith) (c .args .n) e))
+    ∙ own-block (bank s) (c .args .l) (free-many s ok) (omega arith) (c .args .n) e))
 
 pub returns : need.returns
 returns g c =
@@ -30,4 +30,4 @@ returns g c =
     let m = many s in
     let k = class-of-is s ok (c .args .l) in
     c .room-block .ensures ∙ sym (ap judged (write-block (bank s) (c .args .l) (c .args .n) (omega arith)
-      ∙ other-block (bank s) (c .args .l) (c .args .n) (λ e. c .if-class-for-self .left (c .class-for .ensures ∙ (e ∙ k)))))
+    ∙ other-block (bank s) (c .args .l) (c .args .n) (λ e. c .if-class-for-self .left (c .class-for .ensures ∙ (e ∙ k)))))

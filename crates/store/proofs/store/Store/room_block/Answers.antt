@@ -16,7 +16,7 @@ returns-then-offers g c =
     let q = store-stock s in
     let e = ap (obtainable (stock (s .sizes) (s .limit - s .used))) (c .class-for .ensures) in
     let o : obtainable (bank (c .args .self .now)) (smallest (c .args .n)) ≡ true =
-        same-offer (bank s) (stock (s .sizes) (s .limit - s .used)) (smallest (c .args .n)) (q .0) (q .1) ∙ (sym e ∙ sym (c .if-offers .ensures tt)) in
+    same-offer (bank s) (stock (s .sizes) (s .limit - s .used)) (smallest (c .args .n)) (q .0) (q .1) ∙ (sym e ∙ sym (c .if-offers .ensures tt)) in
     sym (ap judged (block-none (bank s) (c .args .n) o))
 
 pub returns : need.returns
@@ -25,5 +25,5 @@ returns g c =
     let q = store-stock s in
     let e = ap (obtainable (stock (s .sizes) (s .limit - s .used))) (c .class-for .ensures) in
     let o : obtainable (bank (c .args .self .now)) (smallest (c .args .n)) ≡ false =
-        same-offer (bank s) (stock (s .sizes) (s .limit - s .used)) (smallest (c .args .n)) (q .0) (q .1) ∙ (sym e ∙ sym (c .if-offers .ensures tt)) in
+    same-offer (bank s) (stock (s .sizes) (s .limit - s .used)) (smallest (c .args .n)) (q .0) (q .1) ∙ (sym e ∙ sym (c .if-offers .ensures tt)) in
     ap Err (c .no-block .ensures) ∙ sym (ap judged (block-some (bank s) (c .args .n) o))

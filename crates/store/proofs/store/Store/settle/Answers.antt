@@ -19,7 +19,8 @@ returns-then-self-gt0 g c =
     record {
       sound = c .free-hand .ensures .sound;
       holds = e;
-      empty = sym (hand-class t (c .free-hand .ensures .sound)) ∙ ap (λ h. h .hand .class) e }
+      empty = sym (hand-class t (c .free-hand .ensures .sound)) ∙ ap (λ h. h .hand .class) e;
+    }
 
 pub returns-else-self-gt0 : need.returns-else-self-gt0
 returns-else-self-gt0 g c =
@@ -32,4 +33,5 @@ returns-else-self-gt0 g c =
     record {
       sound = c .swap-hand .ensures .sound;
       holds = w ∙ same-held (sym (ap (λ h. h .hand) w) ∙ n) refl (sym (spared-none (held s .free) (getD (held s .lists) (c .args .l) nothing .class) k)) refl;
-      empty = z }
+      empty = z;
+    }

@@ -29,8 +29,9 @@ returns g c =
     let h : c .args .l < length (c .args .self .now .heads .now) = omega arith in
     record {
       sound = sounds
-        (swap-apart (view s) l h (ok .apart))
-        (ok .filled .1 l, set-fits (s .heads .now) l (s .hand) h (ok .filled .0) (ok .filled .1))
-        (swap-whole (view s) l h (ok .whole))
-        (ok .room);
-      holds = same-held (sym (list-at (s .cells .now) (s .heads .now) l)) (map-set (owned (s .cells .now)) (s .heads .now) l (s .hand)) refl refl }
+          (swap-apart (view s) l h (ok .apart))
+          (ok .filled .1 l, set-fits (s .heads .now) l (s .hand) h (ok .filled .0) (ok .filled .1))
+          (swap-whole (view s) l h (ok .whole))
+          (ok .room);
+      holds = same-held (sym (list-at (s .cells .now) (s .heads .now) l)) (map-set (owned (s .cells .now)) (s .heads .now) l (s .hand)) refl refl;
+    }

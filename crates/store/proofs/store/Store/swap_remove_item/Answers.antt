@@ -28,4 +28,5 @@ returns-else-n-eq1 g c =
     let n = swapped-length xs (c .args .i) (c .pre .below) in
     record {
       ready = c .swap-remove-within .ensures .ready;
-      holds = c .swap-remove-within .ensures .holds ∙ sym (shortened-some (bank s) (c .args .l) (swapped-out xs (c .args .i)) (omega arith)) }
+      holds = c .swap-remove-within .ensures .holds ∙ sym (shortened-some (bank s) (c .args .l) (swapped-out xs (c .args .i)) (omega arith));
+    }

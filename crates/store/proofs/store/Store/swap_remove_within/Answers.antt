@@ -30,10 +30,11 @@ unfolding bank held
 swap-hand-requires-2 g c κs =
     let s = c .args .self .now in
     let e = c .cut-hand .ensures .holds ∙ ap (λ h. filling h (take (length (h .hand .items) - 1) (h .hand .items)))
-        (c .write-hand .ensures .holds ∙ ap (λ h. filling h (set (h .hand .items) (c .args .i) (c .args .last))) (c .swap-hand .ensures .holds)) in
+    (c .write-hand .ensures .holds ∙ ap (λ h. filling h (set (h .hand .items) (c .args .i) (c .args .last))) (c .swap-hand .ensures .holds)) in
     record {
       sound = c .cut-hand .ensures .sound;
-      within = subst (λ h. c .args .l < length (h .lists)) (sym e) (still-in (held s .lists) (c .args .l) (c .args .l) (held s .hand) (c .pre .within)) }
+      within = subst (λ h. c .args .l < length (h .lists)) (sym e) (still-in (held s .lists) (c .args .l) (c .args .l) (held s .hand) (c .pre .within));
+    }
 
 pub returns : need.returns
 unfolding bank held
@@ -42,8 +43,9 @@ returns g c =
     let xs = items-of (bank s) (c .args .l) in
     let ys = set (items-of (bank s) (c .args .l)) (c .args .i) (c .args .last) in
     let e = c .swap-hand-2 .ensures .holds ∙ ap (λ h. exchange h (c .args .l)) (c .cut-hand .ensures .holds ∙ ap (λ h. filling h (take (length (h .hand .items) - 1) (h .hand .items)))
-        (c .write-hand .ensures .holds ∙ ap (λ h. filling h (set (h .hand .items) (c .args .i) (c .args .last))) (c .swap-hand .ensures .holds))) in
+    (c .write-hand .ensures .holds ∙ ap (λ h. filling h (set (h .hand .items) (c .args .i) (c .args .last))) (c .swap-hand .ensures .holds))) in
     let r = relisted s (c .swap-hand-2 .last .self) (c .args .l) (take (length ys - 1) ys) (c .pre .within) (c .pre .ready) (c .swap-hand-2 .ensures .sound) e in
     record {
       ready = r .0;
-      holds = r .1 ∙ ap (λ zs. holding (bank s) (c .args .l) zs (class-of (bank s) (c .args .l))) (swapped-set xs (c .args .i) (c .args .last) (c .pre .below) (c .pre .last)) }
+      holds = r .1 ∙ ap (λ zs. holding (bank s) (c .args .l) zs (class-of (bank s) (c .args .l))) (swapped-set xs (c .args .i) (c .args .last) (c .pre .below) (c .pre .last));
+    }

@@ -36,13 +36,14 @@ returns g c =
     let o = obtained-freed (shown (held s)) j n in
     record {
       sound = sounds
-        (subst Apart (sym w) (reuse-apart v j (c .pre .some) k (ok .apart)))
-        ((omega arith, omega arith, omega arith), ok .filled .1)
-        (subst Whole (sym w) (reuse-whole v j (c .pre .some) k (c .pre .empty) (ok .whole)))
-        (ok .room .0, ok .room .1, ok .room .2, ok .room .3, ap length (c .pop .ensures) ∙ (length-set _ _ _ ∙ ok .room .4));
+          (subst Apart (sym w) (reuse-apart v j (c .pre .some) k (ok .apart)))
+          ((omega arith, omega arith, omega arith), ok .filled .1)
+          (subst Whole (sym w) (reuse-whole v j (c .pre .some) k (c .pre .empty) (ok .whole)))
+          (ok .room .0, ok .room .1, ok .room .2, ok .room .3, ap length (c .pop .ensures) ∙ (length-set _ _ _ ∙ ok .room .4));
       holds = same-held refl refl
-        (ap (map (λ x. x .count)) (c .pop .ensures)
+          (ap (map (λ x. x .count)) (c .pop .ensures)
           ∙ (map-set (λ x. x .count) (s .sizes .records) j (record { first = getD (s .links .now) (c .record-of-block .result .first) 0; count = getD (s .sizes .records) j no-record .count - 1 })
           ∙ (ap (λ n. set (map (λ x. x .count) (s .sizes .records)) j (n - 1)) (sym (count-at (s .sizes .records) j))
           ∙ sym (ap (λ b. b .free) o))))
-        (sym (ap (λ b. b .left) o)) }
+          (sym (ap (λ b. b .left) o));
+    }

@@ -23,7 +23,8 @@ take-freed-requires g c κs =
       sound = c .pre .sound;
       empty = c .pre .empty;
       few = had-size (shown (held s)) (c .args .class) (c .pre .some) (c .pre .had) .0;
-      some = omega arith }
+      some = omega arith;
+    }
 
 pub take-new-requires : need.take-new-requires
 unfolding held
@@ -37,4 +38,5 @@ take-new-requires g c κs =
       empty = c .pre .empty;
       few = h .0;
       none = omega arith;
-      left = h .1 (omega arith) }
+      left = h .1 (omega arith);
+    }

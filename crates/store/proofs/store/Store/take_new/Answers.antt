@@ -34,8 +34,9 @@ returns g c =
     let d : (c .args .self .now .limit - (c .args .self .now .used + c .units-of-size .result)) ≡ c .args .self .now .limit - c .args .self .now .used - 2 ^ c .args .k = omega arith in
     record {
       sound = sounds
-        (subst Apart (sym w) (break-apart v j (ok .apart)))
-        ((omega arith, omega arith, omega arith), ok .filled .1)
-        (subst Whole (sym w) (break-whole v j (c .pre .empty) (ok .whole)))
-        (ok .room .0, ok .room .1, ok .room .2, omega arith, ok .room .4);
-      holds = same-held refl refl (sym (ap (λ b. b .free) o)) (d ∙ sym (ap (λ b. b .left) o)) }
+          (subst Apart (sym w) (break-apart v j (ok .apart)))
+          ((omega arith, omega arith, omega arith), ok .filled .1)
+          (subst Whole (sym w) (break-whole v j (c .pre .empty) (ok .whole)))
+          (ok .room .0, ok .room .1, ok .room .2, omega arith, ok .room .4);
+      holds = same-held refl refl (sym (ap (λ b. b .free) o)) (d ∙ sym (ap (λ b. b .left) o));
+    }

@@ -11,4 +11,5 @@ returns g c =
     record {
       whole = ap (λ n. 4 * n) (sym (all-units s (c .pre .ready)));
       apart = one-owner (view s) (c .pre .ready .sound .apart);
-      fits = list-fits s (c .pre .ready) }
+      fits = list-fits s (c .pre .ready);
+    }

@@ -35,7 +35,8 @@ overwrite-requires g c κs =
       ready = c .pre .ready;
       within = write-known (bank s) (c .args .l) (length (c .args .xs .now)) (c .pre .fits);
       some = omega arith;
-      room = omega arith }
+      room = omega arith;
+    }
 
 pub replace-requires : need.replace-requires
 replace-requires g c κs =
@@ -55,7 +56,8 @@ replace-requires g c κs =
       within = h;
       some = omega arith;
       had = ap (obtainable b) e ∙ o;
-      room = subst (λ m. length (c .args .xs .now) ≤ 4 * units m) (sym e) r }
+      room = subst (λ m. length (c .args .xs .now) ≤ 4 * units m) (sym e) r;
+    }
 
 pub returns-then-class-eq0 : need.returns-then-class-eq0
 returns-then-class-eq0 g c =
@@ -73,7 +75,8 @@ returns-then-class-self g c =
     let e = sym (c .class-for-class .ensures) ∙ (c .if-class-self .taken ∙ sym k) in
     record {
       ready = c .overwrite .ensures .ready;
-      holds = c .overwrite .ensures .holds ∙ sym (written-own (bank s) (c .args .l) (c .args .xs .now) (free-many s ok) (omega arith) e) }
+      holds = c .overwrite .ensures .holds ∙ sym (written-own (bank s) (c .args .l) (c .args .xs .now) (free-many s ok) (omega arith) e);
+    }
 
 pub returns-else-class-self : need.returns-else-class-self
 returns-else-class-self g c =
@@ -83,5 +86,6 @@ returns-else-class-self g c =
     record {
       ready = c .replace .ensures .ready;
       holds = c .replace .ensures .holds
-        ∙ (ap (λ n. holding (cleared (obtained (bank s) n) (c .args .l)) (c .args .l) (c .args .xs .now) n) e
-        ∙ sym (written-move (bank s) (c .args .l) (c .args .xs .now) (λ q. c .if-class-self .left (e ∙ (q ∙ k))))) }
+          ∙ (ap (λ n. holding (cleared (obtained (bank s) n) (c .args .l)) (c .args .l) (c .args .xs .now) n) e
+          ∙ sym (written-move (bank s) (c .args .l) (c .args .xs .now) (λ q. c .if-class-self .left (e ∙ (q ∙ k)))));
+    }

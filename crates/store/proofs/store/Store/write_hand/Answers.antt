@@ -42,6 +42,7 @@ returns g c =
     record {
       sound = sounds (ok .apart) (ok .filled) (ok .whole) (omega arith, ok .room .1, ok .room .2, ok .room .3, ok .room .4);
       holds = same-held
-        (ap (λ ys. owned ys (s .hand)) e ∙ write-hand (s .cells .now) (s .hand) (c .args .i) (c .args .v) r)
-        (ap (λ ys. map (owned ys) (s .heads .now)) e ∙ lists-kept-one (s .cells .now) (c .args .v) (view s) (c .args .i) (ok .apart) (ok .filled) (omega arith) (omega arith))
-        refl refl }
+          (ap (λ ys. owned ys (s .hand)) e ∙ write-hand (s .cells .now) (s .hand) (c .args .i) (c .args .v) r)
+          (ap (λ ys. map (owned ys) (s .heads .now)) e ∙ lists-kept-one (s .cells .now) (c .args .v) (view s) (c .args .i) (ok .apart) (ok .filled) (omega arith) (omega arith))
+          refl refl;
+    }
