@@ -1,7 +1,7 @@
 -- What each edit does, and when it is refused: its rows stand in the order of their numbers.
 use mathlib.Core.Bool.{Bool, true, false, cond, not, _&&_, _||_}
 use mathlib.Core.List.{List, [], _∷_, _++_, map}
-use Prim.Native.Nat.{ℕ, zero, suc, _+_, _-_, _*_}
+use Prim.Native.Nat.{ℕ, zero, suc, min, _+_, _-_, _*_}
 use lib.ListN.{length, getD, set, take, drop}
 use lib.Dec.{ltb, leb, eqb}
 use Rattle.std.specs.declared.option.Option.{Option}
@@ -110,7 +110,7 @@ make-block g =
     settle (when (leb (g .limits .blocks) (g .blocks)) (Full (g .limits .blocks)) ∷ []) (block (g .blocks))
       (record { defs = g .defs; blocks = g .blocks + 1; insts = g .insts; words = g .words; labels = g .labels; starts = g .starts; limits = g .limits })
 
--- make_inst: one call for each target, its first word
+-- make_inst: one call for each target, its first word; a number of targets past 32 bits is told as the last that fits
 abbrev pub aimed : Graph → InstId → ℕ → List Block → Bank Value → Bank Value
 aimed g i j [] b = b
 aimed g i j (t ∷ ts) b = aimed g i (j + 1) ts (written b (call-list g i j) (value (t .0) ∷ []))
@@ -121,7 +121,7 @@ make-inst-rows s os ts =
     ∷ first-of (λ t. leb (s .graph .blocks) (t .0)) (λ t. Unknown (t .0)) ts
     ∷ retired-values (s .graph) os
     ∷ counts-differ s
-    ∷ when (ltb 2 (length ts)) (Count (length ts))
+    ∷ when (ltb 2 (length ts)) (Count (min (length ts) 4294967295))
     ∷ insts-full (s .graph)
     ∷ by-table (add-answer (s .table) (length os))
     ∷ by-pool (fault-for (s .graph .words) (map (λ t. 1) ts))
@@ -344,6 +344,7 @@ clone-rows s i =
     ∷ by-table (copy-answer (s .table) i)
     ∷ values-full (s .graph) (length (results (s .graph) i))
     ∷ by-pool (fault-for (s .graph .words) (length (call (s .graph) i 0) ∷ length (call (s .graph) i 1) ∷ length (results (s .graph) i) ∷ []))
+    ∷ when (ltb 65536 (length (results (s .graph) i))) Long
     ∷ []
 
 abbrev pub calls-copied : Graph → InstId → InstId → Bank Value

@@ -113,7 +113,7 @@ spared-set f (suc j) k x ne =
     let d : j ≢ k = λ e. ne (ap suc (sym e)) in
     set-comm f j k (getD f j 0 + 1) x d ∙ ap (λ n. set (set f k x) j (n + 1)) (sym (getD-set-other f k j x 0 d))
 
-other-obtained : {T : Type 0} (b : Bank T) (l c : ℕ) → c ≢ class-of b l → obtained (cleared b l) c ≡ cleared (obtained b c) l
+pub other-obtained : {T : Type 0} (b : Bank T) (l c : ℕ) → c ≢ class-of b l → obtained (cleared b l) c ≡ cleared (obtained b c) l
 unfolding obtained taken cleared
 other-obtained b l zero ne = refl
 other-obtained b l (suc k) ne =
@@ -131,7 +131,7 @@ other-obtained b l (suc k) ne =
           rw (f, e)
     ]
 
-own-obtained : {T : Type 0} (b : Bank T) (l : ℕ) (xs : List T) → length (b .free) ≡ 29 → class-of b l ≤ 29 → (c : ℕ) → c ≡ class-of b l
+pub own-obtained : {T : Type 0} (b : Bank T) (l : ℕ) (xs : List T) → length (b .free) ≡ 29 → class-of b l ≤ 29 → (c : ℕ) → c ≡ class-of b l
     → holding (obtained (cleared b l) c) l xs c ≡ holding b l xs c
 unfolding obtained taken cleared holding spared
 own-obtained b l xs n f zero e =
@@ -216,3 +216,9 @@ smallest-some n h =
       | inl p ↦ p
       | inr z ↦ let e : smallest n ≡ 0 = omega arith in let q = smallest-none n e in absurd (omega arith)
     ]
+
+-- a list written anew with no item, where that takes no block
+pub reserved-none : {T : Type 0} (b : Bank T) (l c : ℕ) → c ≡ 0 → holding (obtained (cleared b l) c) l [] c ≡ cleared b l
+unfolding holding obtained cleared
+reserved-none b l c e =
+    ap (λ d. holding (obtained (cleared b l) d) l [] d) e ∙ same-bank (set-set (b .lists) l nothing nothing) refl refl

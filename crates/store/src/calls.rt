@@ -287,4 +287,21 @@ impl<'a, T: Copy> Store<'a, T> {
             self.copy_over(from, to);
         }
     }
+
+    // Writes a list anew, with no item yet, in the block that n items take.
+    pub fn reserve(&mut self, l: u32, n: usize)
+        requires ready { ⌜ Ready (now self) ⌝ }
+        requires fits { ⌜ fault-write (bank (now self)) l n ≡ None ⌝ }
+        ensures ready { λ _. ⌜ Ready (now (self .exit)) ⌝ }
+        ensures holds { λ _. ⌜ bank (now (self .exit)) ≡ holding (obtained (cleared (bank (now (self .entry))) l) (smallest n)) l [] (smallest n) ⌝ }
+    {
+        let class = class_for(n);
+        if class == 0 {
+            self.settle(l);
+        } else if class == self.heads[l as usize].class {
+            self.overwrite(l, &[]);
+        } else {
+            self.replace(l, class, &[]);
+        }
+    }
 }

@@ -1,0 +1,6 @@
+pub mod Firsts
+pub mod Supplies
+pub mod Aims
+pub mod Makes
+pub mod Clones
+pub mod Copies

@@ -1,0 +1,4 @@
+pub mod Judged
+pub mod Each
+pub mod Seating
+pub mod Made
