@@ -1,3 +1,5 @@
+#![tactic(auto)]
+
 // The lines of a log: reading them, running them, and writing them down with what came of them.
 pub mod command;
 pub mod counting;

@@ -1,3 +1,5 @@
+#![tactic(auto)]
+
 // Reads a log of commands on standard input, runs it and prints the record.
 use command_log::command::Command;
 use command_log::counts::Counts;

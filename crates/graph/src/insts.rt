@@ -18,7 +18,7 @@ impl<'a> DataFlowGraph<'a> {
         operands: &[Value],
         targets: &[Block],
     ) -> Result<Inst, GraphFault>
-        ensures says { outcome result (state (graph_of self.new.defs) (meaning table.new)) ≡ make_inst opcode operands.now targets.now (state (graph_of self.old.defs) (meaning table.old)) }
+        ensures says { outcome result (state (graph_of self.new.defs) (T.meaning table.new)) ≡ make_inst opcode operands.now targets.now (state (graph_of self.old.defs) (T.meaning table.old)) }
         ensures kept { Kept result self.old.defs self.new.defs }
         ensures table { Unchanged result table.old table.new }
     {
@@ -31,7 +31,7 @@ impl<'a> DataFlowGraph<'a> {
         table: &mut T,
         inst: Inst,
     ) -> Result<Inst, GraphFault>
-        ensures says { outcome result (state (graph_of self.new.defs) (meaning table.new)) ≡ clone_inst inst (state (graph_of self.old.defs) (meaning table.old)) }
+        ensures says { outcome result (state (graph_of self.new.defs) (T.meaning table.new)) ≡ clone_inst inst (state (graph_of self.old.defs) (T.meaning table.old)) }
         ensures kept { Kept result self.old.defs self.new.defs }
         ensures table { Unchanged result table.old table.new }
     {

@@ -1,3 +1,5 @@
+#![tactic(auto)]
+
 // The graph that users hold, in memory that they lend. Every value of it is sound, so its calls ask nothing.
 pub mod blocks;
 pub mod graph;

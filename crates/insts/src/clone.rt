@@ -20,7 +20,7 @@ use table::inst_table::InstTable;
 
 fn judge<T: InstTable>(defs: &Defs<'_>, table: &T, inst: Inst) -> Result<(), GraphFault>
     requires { Sound defs.now }
-    ensures { result ≡ judged (first (clone_rows (state (graph_of defs.now) (meaning table.now)) inst)) }
+    ensures { result ≡ judged (first (clone_rows (state (graph_of defs.now) (T.meaning table.now)) inst)) }
 {
     defs.known_inst(inst)?;
     same_counts(defs, table)?;
@@ -113,7 +113,7 @@ pub fn clone_inst<T: InstTable>(
 ) -> Result<Inst, GraphFault>
     requires sound { Sound defs.old }
     ensures sound { Sound defs.new }
-    ensures says { outcome result (state (graph_of defs.new) (meaning table.new)) ≡ clone_inst inst (state (graph_of defs.old) (meaning table.old)) }
+    ensures says { outcome result (state (graph_of defs.new) (T.meaning table.new)) ≡ clone_inst inst (state (graph_of defs.old) (T.meaning table.old)) }
     ensures kept { Kept result defs.old defs.new }
     ensures table { Unchanged result table.old table.new }
 {

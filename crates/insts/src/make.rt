@@ -32,7 +32,7 @@ fn judge<T: InstTable>(
     targets: &[Block],
 ) -> Result<(), GraphFault>
     requires sound { Sound defs.now }
-    ensures { result ≡ judged (first (make_inst_rows (state (graph_of defs.now) (meaning table.now)) operands.now targets.now)) }
+    ensures { result ≡ judged (first (make_inst_rows (state (graph_of defs.now) (T.meaning table.now)) operands.now targets.now)) }
 {
     known_values(defs, operands)?;
     known_blocks(defs, targets)?;
@@ -56,7 +56,7 @@ pub fn make_inst<T: InstTable>(
 ) -> Result<Inst, GraphFault>
     requires sound { Sound defs.old }
     ensures sound { Sound defs.new }
-    ensures says { outcome result (state (graph_of defs.new) (meaning table.new)) ≡ make_inst opcode operands.now targets.now (state (graph_of defs.old) (meaning table.old)) }
+    ensures says { outcome result (state (graph_of defs.new) (T.meaning table.new)) ≡ make_inst opcode operands.now targets.now (state (graph_of defs.old) (T.meaning table.old)) }
     ensures kept { Kept result defs.old defs.new }
     ensures table { Unchanged result table.old table.new }
 {

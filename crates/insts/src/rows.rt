@@ -11,7 +11,7 @@ use table::inst_table::InstTable;
 
 // Room for one more instruction of so many operands in the table.
 pub(crate) fn room_in_table<T: InstTable>(table: &T, operands: usize) -> Result<(), GraphFault>
-    ensures { result ≡ judged (by_table (add_answer (meaning table.now) operands)) }
+    ensures { result ≡ judged (by_table (add_answer (T.meaning table.now) operands)) }
 {
     if table.count() >= table.inst_limit() {
         return Err(GraphFault::Table(TableFault::Full(table.inst_limit())));
@@ -24,7 +24,7 @@ pub(crate) fn room_in_table<T: InstTable>(table: &T, operands: usize) -> Result<
 
 // Room for a copy of an instruction in the table.
 pub(crate) fn room_for_copy<T: InstTable>(table: &T, inst: Inst) -> Result<(), GraphFault>
-    ensures { result ≡ judged (by_table (copy_answer (meaning table.now) inst)) }
+    ensures { result ≡ judged (by_table (copy_answer (T.meaning table.now) inst)) }
 {
     let operands = table.operand_count(inst)?;
     room_in_table(table, operands as usize)

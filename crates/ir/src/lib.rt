@@ -1,3 +1,5 @@
+#![tactic(auto)]
+
 // Entities, definitions of values and arguments of block calls, with the words that they are packed into.
 pub mod arguments;
 pub mod block_arg;

@@ -1,3 +1,5 @@
+#![tactic(auto)]
+
 // Cases of the packing, at its edges.
 #[cfg(test)]
 mod arguments;

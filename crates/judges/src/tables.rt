@@ -9,7 +9,7 @@ use table::inst_table::InstTable;
 
 // The graph and the table must have as many instructions.
 pub fn same_counts<T: InstTable>(defs: &Defs<'_>, table: &T) -> Result<(), GraphFault>
-    ensures { result ≡ judged (counts_differ (state (graph_of defs.now) (meaning table.now))) }
+    ensures { result ≡ judged (counts_differ (state (graph_of defs.now) (T.meaning table.now))) }
 {
     let count = table.count();
     if defs.insts != count {

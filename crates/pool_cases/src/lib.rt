@@ -1,3 +1,5 @@
+#![tactic(auto)]
+
 // Runs of a pool, compared with plain lists.
 #[cfg(test)]
 mod tests {

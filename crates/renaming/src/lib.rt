@@ -1,3 +1,5 @@
+#![tactic(auto)]
+
 // Functions from values to values, and the two that are built: a list of pairs, and the way along aliases.
 pub mod aliases;
 pub mod laws;

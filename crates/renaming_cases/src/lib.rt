@@ -1,3 +1,5 @@
+#![tactic(auto)]
+
 // Cases of following aliases and of renaming.
 #[cfg(test)]
 mod aliases;

@@ -1,3 +1,5 @@
+#![tactic(auto)]
+
 pub mod calls;
 mod cells;
 mod classes;

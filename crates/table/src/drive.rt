@@ -7,8 +7,8 @@ use crate::inst_table::InstTable;
 
 // Makes one call.
 pub fn apply<T: InstTable>(table: &mut T, call: TableCall<'_>) -> Result<TableReply, TableFault>
-    ensures says { result ≡ answer call.entry (meaning table.old) }
-    ensures holds { meaning table.new ≡ after call.entry (meaning table.old) }
+    ensures says { result ≡ answer call.entry (T.meaning table.old) }
+    ensures holds { T.meaning table.new ≡ after call.entry (T.meaning table.old) }
     ensures kept { elim result [ Ok _ ↦ Unit {0} | Err _ ↦ table.new ≡ table.old ] }
 {
     match call {
@@ -46,10 +46,10 @@ pub fn answer_alike<L: InstTable, R: InstTable>(
     right: &mut R,
     calls: &[TableCall<'_>],
 ) -> bool
-    ensures says { Decides result (answers calls.now (L.InstTable.meaning left.old) ≡ answers calls.now (R.InstTable.meaning right.old)) }
-    ensures left { L.InstTable.meaning left.new ≡ after_all calls.now (L.InstTable.meaning left.old) }
-    ensures right { R.InstTable.meaning right.new ≡ after_all calls.now (R.InstTable.meaning right.old) }
-    ensures alike { L.InstTable.meaning left.old ≡ R.InstTable.meaning right.old → (result ≡ true) × (L.InstTable.meaning left.new ≡ R.InstTable.meaning right.new) }
+    ensures says { Decides result (answers calls.now (L.meaning left.old) ≡ answers calls.now (R.meaning right.old)) }
+    ensures left { L.meaning left.new ≡ after_all calls.now (L.meaning left.old) }
+    ensures right { R.meaning right.new ≡ after_all calls.now (R.meaning right.old) }
+    ensures alike { L.meaning left.old ≡ R.meaning right.old → (result ≡ true) × (L.meaning left.new ≡ R.meaning right.new) }
 {
     let mut alike = true;
     for k in 0..calls.len() {

@@ -5,14 +5,14 @@ use crate::inst_table::InstTable;
 
 // How many instructions can still be added.
 pub fn insts_left<T: InstTable>(table: &T) -> u32
-    ensures { result ≡ (meaning table.now).insts - count (meaning table.now) }
+    ensures { result ≡ (T.meaning table.now).insts - count (T.meaning table.now) }
 {
     table.inst_limit() - table.count()
 }
 
 // How many operands can still be added.
 pub fn operands_left<T: InstTable>(table: &T) -> u32
-    ensures { result ≡ (meaning table.now).words - total (meaning table.now).rows }
+    ensures { result ≡ (T.meaning table.now).words - total (T.meaning table.now).rows }
 {
     table.operand_limit() - table.operand_total()
 }

@@ -1,3 +1,5 @@
+#![tactic(auto)]
+
 // Cases of both instruction tables, as tests.
 #[cfg(test)]
 mod calls;

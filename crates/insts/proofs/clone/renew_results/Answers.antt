@@ -22,11 +22,11 @@ item-requires c =
       below = renew_below g c.args.inst c.args.list c.loop-k.k c.loop-k.defs c.loop-k.invariant (omega arith) c.requires.within;
     }
 
-pub type-among-ty-requires : goal.type-among-ty-requires
-type-among-ty-requires c = c.loop-k.invariant.sound
+pub type_among-ty-requires : goal.type_among-ty-requires
+type_among-ty-requires c = c.loop-k.invariant.sound
 
-pub overflow-cast-k : goal.overflow-cast-k
-overflow-cast-k c = omega arith
+pub overflow_cast-k : goal.overflow_cast-k
+overflow_cast-k c = omega arith
 
 pub define-v-requires : goal.define-v-requires
 define-v-requires c =
@@ -34,12 +34,12 @@ define-v-requires c =
     let f = ltb-false g.limits.values (length g.defs + length (items_of g.words c.args.list)) (when_none _ (Full g.limits.values) c.requires.room) in
     record {
       sound = c.loop-k.invariant.sound;
-      narrow = c.type-among-ty.ensures.narrow;
+      narrow = c.type_among-ty.ensures.narrow;
       room = renew_room g c.args.inst c.args.list c.loop-k.k c.loop-k.defs c.loop-k.invariant (omega arith) f;
     }
 
-pub set-word-requires : goal.set-word-requires
-set-word-requires c =
+pub set_word-requires : goal.set_word-requires
+set_word-requires c =
     let g = graph_of c.args.defs.now in
     let e = renew_lists g c.args.inst c.args.list c.loop-k.k c.loop-k.defs c.loop-k.invariant in
     let b = renew_below g c.args.inst c.args.list c.loop-k.k c.loop-k.defs c.loop-k.invariant (omega arith) c.requires.within in
@@ -54,9 +54,9 @@ pub loop-k-preserved : goal.loop-k-preserved
 loop-k-preserved c =
     let g = graph_of c.args.defs.now in
     let t = renew_type g c.args.inst c.args.list c.loop-k.k c.loop-k.defs c.loop-k.invariant (omega arith) c.requires.within
-    c.item.result c.type-among-ty.result c.args.defs.now.values.count c.item.ensures (sym c.requires.sound.values.sized) c.type-among-ty.ensures.says in
+    c.item.result c.type_among-ty.result c.args.defs.now.values.count c.item.ensures (sym c.requires.sound.values.sized) c.type_among-ty.ensures.says in
     renew_more g c.args.inst c.args.list c.loop-k.k c.loop-k.defs c.loop-k.invariant (omega arith) c.requires.within
-    c.type-among-ty.result c.define-v.result c.define-v.new.self c.set-word.new.self t c.define-v.ensures.says c.define-v.ensures.holds c.set-word.ensures.sound c.set-word.ensures.holds
+    c.type_among-ty.result c.define-v.result c.define-v.new.self c.set_word.new.self t c.define-v.ensures.says c.define-v.ensures.holds c.set_word.ensures.sound c.set_word.ensures.holds
 
 pub returns : goal.returns
 returns c =

@@ -10,6 +10,6 @@ returns-then-v-count c =
 pub returns : goal.returns
 returns c =
     record {
-      says = c.value-type.ensures.says ∙ type_within (graph_of c.args.defs.now).defs c.args.count c.args.v (omega arith);
-      narrow = c.value-type.ensures.narrow;
+      says = c.value_type.ensures.says ∙ type_within (graph_of c.args.defs.now).defs c.args.count c.args.v (omega arith);
+      narrow = c.value_type.ensures.narrow;
     }

@@ -10,28 +10,28 @@ use Rattle.judges.specs.States.{state}
 use Rattle.insts.proofs.Makes.{Makes, judged_none, kept_same, made, makes, makes_answer, makes_never, refuses, unchanged_same}
 use Rattle.insts.proofs.make.make_inst.Goals as goal
 
-pub returns-in-err-judge : goal.returns-in-err-judge
-returns-in-err-judge g c =
+pub returns-in_err-judge : goal.returns-in_err-judge
+returns-in_err-judge g c =
     let s : State = state (graph_of c.args.defs.now) (g.T.InstTable.meaning c.args.table.now) in
-    let r = c.from-residual.result in
-    let p = err_from_is_err_and r c.from-residual.ensures.1 in
+    let r = c.from_residual.result in
+    let p = err_from_is_err_and r c.from_residual.ensures.1 in
     record {
       sound = c.requires.sound;
-      says = refuses r _ _ _ (first (make_inst_rows s c.args.operands.now c.args.targets.now)) _ (p.1 ∙ ap (λ (f : GraphFault). Err f) p.2) c.in-err-judge.ensures;
+      says = refuses r _ _ _ (first (make_inst_rows s c.args.operands.now c.args.targets.now)) _ (p.1 ∙ ap (λ (f : GraphFault). Err f) p.2) c.in_err-judge.ensures;
       kept = kept_same r c.args.defs.now;
       table = unchanged_same r c.args.table.now;
     }
 
-pub returns-in-err-inst : goal.returns-in-err-inst
-returns-in-err-inst g c =
+pub returns-in_err-inst : goal.returns-in_err-inst
+returns-in_err-inst g c =
     let s : State = state (graph_of c.args.defs.now) (g.T.InstTable.meaning c.args.table.now) in
-    absurd (makes_never (makes s c.args.operands.now c.args.targets.now (judged_none _ c.in-ok-judge.ensures)) _ c.in-err-inst.ensures.says)
+    absurd (makes_never (makes s c.args.operands.now c.args.targets.now (judged_none _ c.in_ok-judge.ensures)) _ c.in_err-inst.ensures.says)
 
 pub aim-requires : goal.aim-requires
 aim-requires g c =
     let s : State = state (graph_of c.args.defs.now) (g.T.InstTable.meaning c.args.table.now) in
-    let m = makes s c.args.operands.now c.args.targets.now (judged_none _ c.in-ok-judge.ensures) in
-    let e = makes_answer m c.in-ok-inst.inst c.in-ok-inst.ensures.says in
+    let m = makes s c.args.operands.now c.args.targets.now (judged_none _ c.in_ok-judge.ensures) in
+    let e = makes_answer m c.in_ok-inst.inst c.in_ok-inst.ensures.says in
     record {
       sound = c.requires.sound;
       below = subst (λ (i : InstId). i.0 < s.graph.limits.insts) (sym e) m.below;
@@ -39,21 +39,21 @@ aim-requires g c =
       fits = m.fits;
     }
 
-pub count-inst-requires : goal.count-inst-requires
-count-inst-requires g c =
+pub count_inst-requires : goal.count_inst-requires
+count_inst-requires g c =
     let s : State = state (graph_of c.args.defs.now) (g.T.InstTable.meaning c.args.table.now) in
-    let m = makes s c.args.operands.now c.args.targets.now (judged_none _ c.in-ok-judge.ensures) in
+    let m = makes s c.args.operands.now c.args.targets.now (judged_none _ c.in_ok-judge.ensures) in
     record { sound = c.aim.ensures.sound; room = ap (λ (x : Graph). insts_full x) c.aim.ensures.holds ∙ m.room }
 
 pub returns : goal.returns
 returns g c =
     let s : State = state (graph_of c.args.defs.now) (g.T.InstTable.meaning c.args.table.now) in
-    let e = judged_none (first (make_inst_rows s c.args.operands.now c.args.targets.now)) c.in-ok-judge.ensures in
-    let i = makes_answer (makes s c.args.operands.now c.args.targets.now e) c.in-ok-inst.inst c.in-ok-inst.ensures.says in
+    let e = judged_none (first (make_inst_rows s c.args.operands.now c.args.targets.now)) c.in_ok-judge.ensures in
+    let i = makes_answer (makes s c.args.operands.now c.args.targets.now e) c.in_ok-inst.inst c.in_ok-inst.ensures.says in
     record {
-      sound = c.count-inst.ensures.sound;
-      says = made s c.args.opcode c.args.operands.now c.args.targets.now c.in-ok-inst.inst _ _ e i
-          (c.count-inst.ensures.holds ∙ ap with_inst c.aim.ensures.holds) c.in-ok-inst.ensures.holds;
+      sound = c.count_inst.ensures.sound;
+      says = made s c.args.opcode c.args.operands.now c.args.targets.now c.in_ok-inst.inst _ _ e i
+          (c.count_inst.ensures.holds ∙ ap with_inst c.aim.ensures.holds) c.in_ok-inst.ensures.holds;
       kept = tt;
       table = tt;
     }

@@ -6,13 +6,13 @@ use Rattle.insts.proofs.Aims.{ones}
 use Rattle.insts.proofs.Makes.{pool_passes, pool_stops}
 use Rattle.insts.proofs.make.room_for_calls.Goals as goal
 
-pub returns-in-err-room-for : goal.returns-in-err-room-for
-returns-in-err-room-for c =
-    let p = err_from_is_err_and c.from-residual.result c.from-residual.ensures.1 in
+pub returns-in_err-room_for : goal.returns-in_err-room_for
+returns-in_err-room_for c =
+    let p = err_from_is_err_and c.from_residual.result c.from_residual.ensures.1 in
     let o = ones c.args.targets.now c.requires.few in
-    rw (p.1, p.2) (pool_stops _ _ (c.in-err-room-for.ensures ∙ ap (λ (ns : List ℕ). pool-judged (fault_for (bank c.args.defs.now.words) ns)) o))
+    rw (p.1, p.2) (pool_stops _ _ (c.in_err-room_for.ensures ∙ ap (λ (ns : List ℕ). pool-judged (fault_for (bank c.args.defs.now.words) ns)) o))
 
 pub returns : goal.returns
 returns c =
     let o = ones c.args.targets.now c.requires.few in
-    pool_passes _ (c.in-ok-room-for.ensures ∙ ap (λ (ns : List ℕ). pool-judged (fault_for (bank c.args.defs.now.words) ns)) o)
+    pool_passes _ (c.in_ok-room_for.ensures ∙ ap (λ (ns : List ℕ). pool-judged (fault_for (bank c.args.defs.now.words) ns)) o)

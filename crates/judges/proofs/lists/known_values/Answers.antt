@@ -7,17 +7,17 @@ use Rattle.defs.specs.Graphs.{graph_of, judged}
 use Rattle.judges.proofs.Firsts.{row_more, row_none, row_stops}
 use Rattle.judges.proofs.lists.known_values.Goals as goal
 
-pub returns-in-err-known-value : goal.returns-in-err-known-value
-returns-in-err-known-value c =
+pub returns-in_err-known_value : goal.returns-in_err-known_value
+returns-in_err-known_value c =
     let g = graph_of c.args.defs.now in
-    let p = err_from_is_err_and c.from-residual.result c.from-residual.ensures.1 in
-    rw (p.1, p.2) (row_stops (λ (v : Value). leb (length g.defs) v.0) (λ (v : Value). Unknown v.0) c.args.values.now c.loop-v.v-index no_value _ c.loop-v-test.true c.in-err-known-value.ensures
+    let p = err_from_is_err_and c.from_residual.result c.from_residual.ensures.1 in
+    rw (p.1, p.2) (row_stops (λ (v : Value). leb (length g.defs) v.0) (λ (v : Value). Unknown v.0) c.args.values.now c.loop-v.v-index no_value _ c.loop-v-test.true c.in_err-known_value.ensures
     ∙ sym (ap judged c.loop-v.invariant))
 
 pub loop-v-preserved : goal.loop-v-preserved
 loop-v-preserved c =
     let g = graph_of c.args.defs.now in
-    c.loop-v.invariant ∙ row_more (λ (v : Value). leb (length g.defs) v.0) (λ (v : Value). Unknown v.0) c.args.values.now c.loop-v.v-index no_value c.loop-v-test.true c.in-ok-known-value.ensures
+    c.loop-v.invariant ∙ row_more (λ (v : Value). leb (length g.defs) v.0) (λ (v : Value). Unknown v.0) c.args.values.now c.loop-v.v-index no_value c.loop-v-test.true c.in_ok-known_value.ensures
 
 pub returns : goal.returns
 returns c =

@@ -9,17 +9,17 @@ use Rattle.defs.specs.Graphs.{graph_of, judged}
 use Rattle.judges.proofs.Firsts.{row_more, row_none, row_stops}
 use Rattle.judges.proofs.lists.unretired_values.Goals as goal
 
-pub returns-in-err-unretired-value : goal.returns-in-err-unretired-value
-returns-in-err-unretired-value c =
+pub returns-in_err-unretired_value : goal.returns-in_err-unretired_value
+returns-in_err-unretired_value c =
     let g = graph_of c.args.defs.now in
-    let p = err_from_is_err_and c.from-residual.result c.from-residual.ensures.1 in
-    rw (p.1, p.2) (row_stops (λ (v : Value). retired (at g.defs v)) (λ (v : Value). Retired v.0) c.args.values.now c.loop-v.v-index no_value _ c.loop-v-test.true c.in-err-unretired-value.ensures
+    let p = err_from_is_err_and c.from_residual.result c.from_residual.ensures.1 in
+    rw (p.1, p.2) (row_stops (λ (v : Value). retired (at g.defs v)) (λ (v : Value). Retired v.0) c.args.values.now c.loop-v.v-index no_value _ c.loop-v-test.true c.in_err-unretired_value.ensures
     ∙ sym (ap judged c.loop-v.invariant))
 
 pub loop-v-preserved : goal.loop-v-preserved
 loop-v-preserved c =
     let g = graph_of c.args.defs.now in
-    c.loop-v.invariant ∙ row_more (λ (v : Value). retired (at g.defs v)) (λ (v : Value). Retired v.0) c.args.values.now c.loop-v.v-index no_value c.loop-v-test.true c.in-ok-unretired-value.ensures
+    c.loop-v.invariant ∙ row_more (λ (v : Value). retired (at g.defs v)) (λ (v : Value). Retired v.0) c.args.values.now c.loop-v.v-index no_value c.loop-v-test.true c.in_ok-unretired_value.ensures
 
 pub returns : goal.returns
 returns c =

@@ -9,27 +9,27 @@ use Rattle.results.specs.Seats.{Seatable, seated_in}
 use Rattle.results.proofs.Made.{answered, made, refused_by, seatable}
 use Rattle.results.proofs.make.make_inst_results.Goals as goal
 
-pub returns-in-err-judge : goal.returns-in-err-judge
-returns-in-err-judge c =
+pub returns-in_err-judge : goal.returns-in_err-judge
+returns-in_err-judge c =
     let g = graph_of c.args.defs.now in
-    let p = err_from_is_err_and c.from-residual.result c.from-residual.ensures.1 in
+    let p = err_from_is_err_and c.from_residual.result c.from_residual.ensures.1 in
     rw (p.1, p.2) (record {
       sound = c.requires.sound;
-      says = refused_by (make_inst_results_rows g c.args.inst c.args.types.now c.args.reuse.now) _ _ g _ c.in-err-judge.ensures;
+      says = refused_by (make_inst_results_rows g c.args.inst c.args.types.now c.args.reuse.now) _ _ g _ c.in_err-judge.ensures;
       kept = refl;
     })
 
-pub seat-results-requires : goal.seat-results-requires
-seat-results-requires c =
+pub seat_results-requires : goal.seat_results-requires
+seat_results-requires c =
     let g = graph_of c.args.defs.now in
     let ts = c.args.types.now in
     let us = c.args.reuse.now in
-    let h = c.reserve-list.ensures.holds
-    ∙ ap (λ (l : ℕ). with_words g (holding (obtained (cleared g.words l) (smallest (length ts))) l [] (smallest (length ts)))) c.result-list-list.ensures in
+    let h = c.reserve_list.ensures.holds
+    ∙ ap (λ (l : ℕ). with_words g (holding (obtained (cleared g.words l) (smallest (length ts))) l [] (smallest (length ts)))) c.result_list-list.ensures in
     record {
-      sound = c.reserve-list.ensures.sound;
-      fits = subst (λ (l : ℕ). Seatable (graph_of c.reserve-list.new.self) l ts us) (sym c.result-list-list.ensures)
-          (subst (λ (x : Graph). Seatable x (result_list g c.args.inst) ts us) (sym h) (seatable g c.args.inst ts us c.in-ok-judge.ensures));
+      sound = c.reserve_list.ensures.sound;
+      fits = subst (λ (l : ℕ). Seatable (graph_of c.reserve_list.new.self) l ts us) (sym c.result_list-list.ensures)
+          (subst (λ (x : Graph). Seatable x (result_list g c.args.inst) ts us) (sym h) (seatable g c.args.inst ts us c.in_ok-judge.ensures));
     }
 
 pub returns : goal.returns
@@ -37,12 +37,12 @@ returns c =
     let g = graph_of c.args.defs.now in
     let ts = c.args.types.now in
     let us = c.args.reuse.now in
-    let l = c.result-list-list.ensures in
-    let h = c.reserve-list.ensures.holds
+    let l = c.result_list-list.ensures in
+    let h = c.reserve_list.ensures.holds
     ∙ ap (λ (l : ℕ). with_words g (holding (obtained (cleared g.words l) (smallest (length ts))) l [] (smallest (length ts)))) l in
     record {
-      sound = c.seat-results.ensures.sound;
-      says = answered g c.args.inst ts us c.in-ok-judge.ensures (graph_of c.seat-results.new.defs)
-          (c.seat-results.ensures.holds ∙ ((λ j. seated_in (h j) c.args.inst (l j) ts us) ∙ made g c.args.inst ts us c.in-ok-judge.ensures));
+      sound = c.seat_results.ensures.sound;
+      says = answered g c.args.inst ts us c.in_ok-judge.ensures (graph_of c.seat_results.new.defs)
+          (c.seat_results.ensures.holds ∙ ((λ j. seated_in (h j) c.args.inst (l j) ts us) ∙ made g c.args.inst ts us c.in_ok-judge.ensures));
       kept = tt;
     }

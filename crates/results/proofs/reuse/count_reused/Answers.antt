@@ -5,8 +5,8 @@ use Rattle.model.specs.Edits.{reused}
 use Rattle.results.proofs.Each.{count_each, count_within}
 use Rattle.results.proofs.reuse.count_reused.Goals as goal
 
-pub overflow-add-n : goal.overflow-add-n
-overflow-add-n c =
+pub overflow_add-n : goal.overflow_add-n
+overflow_add-n c =
     let w = count_within (get_or c.args.reuse.now c.loop-entry.entry-index None ∷ []) in
     search rules
 

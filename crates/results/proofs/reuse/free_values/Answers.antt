@@ -6,18 +6,18 @@ use Rattle.defs.specs.Graphs.{graph_of}
 use Rattle.results.proofs.Each.{passed, stopped, ended, reused_each}
 use Rattle.results.proofs.reuse.free_values.Goals as goal
 
-pub returns-in-err-free-entry : goal.returns-in-err-free-entry
-returns-in-err-free-entry c =
+pub returns-in_err-free_entry : goal.returns-in_err-free_entry
+returns-in_err-free_entry c =
     let g = graph_of c.args.defs.now in
-    let p = err_from_is_err_and c.from-residual.result c.from-residual.ensures.1 in
+    let p = err_from_is_err_and c.from_residual.result c.from_residual.ensures.1 in
     rw (p.1, p.2) (stopped (λ es. attached_elsewhere g c.args.inst (reused es)) (λ e es. attached_elsewhere g c.args.inst (reused (e ∷ []))) (reused_each _ _)
-    c.args.reuse.now c.loop-entry.entry-index None _ (omega arith) c.in-err-free-entry.ensures c.loop-entry.invariant)
+    c.args.reuse.now c.loop-entry.entry-index None _ (omega arith) c.in_err-free_entry.ensures c.loop-entry.invariant)
 
 pub loop-entry-preserved : goal.loop-entry-preserved
 loop-entry-preserved c =
     let g = graph_of c.args.defs.now in
     passed (λ es. attached_elsewhere g c.args.inst (reused es)) (λ e es. attached_elsewhere g c.args.inst (reused (e ∷ []))) (reused_each _ _)
-    c.args.reuse.now c.loop-entry.entry-index None (omega arith) c.in-ok-free-entry.ensures c.loop-entry.invariant
+    c.args.reuse.now c.loop-entry.entry-index None (omega arith) c.in_ok-free_entry.ensures c.loop-entry.invariant
 
 pub returns : goal.returns
 returns c =

@@ -11,17 +11,17 @@ use Rattle.results.proofs.reuse.named_once.Goals as goal
 abbrev again : List (Option Value) → Row
 again es = repeated (reused es)
 
-pub returns-in-err-unique-entry : goal.returns-in-err-unique-entry
-returns-in-err-unique-entry c =
-    let p = err_from_is_err_and c.from-residual.result c.from-residual.ensures.1 in
+pub returns-in_err-unique_entry : goal.returns-in_err-unique_entry
+returns-in_err-unique_entry c =
+    let p = err_from_is_err_and c.from_residual.result c.from_residual.ensures.1 in
     rw (p.1, p.2) (stopped again named_again repeated_each
     c.args.reuse.now c.loop-k.k None _ (omega arith)
-    (c.in-err-unique-entry.ensures ∙ ap (λ (es : List (Option Value)). judged (named_again (get_or c.args.reuse.now c.loop-k.k None) es)) c.behind.ensures) c.loop-k.invariant)
+    (c.in_err-unique_entry.ensures ∙ ap (λ (es : List (Option Value)). judged (named_again (get_or c.args.reuse.now c.loop-k.k None) es)) c.behind.ensures) c.loop-k.invariant)
 
 pub loop-k-preserved : goal.loop-k-preserved
 loop-k-preserved c =
     passed again named_again repeated_each c.args.reuse.now c.loop-k.k None (omega arith)
-    (c.in-ok-unique-entry.ensures ∙ ap (λ (es : List (Option Value)). judged (named_again (get_or c.args.reuse.now c.loop-k.k None) es)) c.behind.ensures) c.loop-k.invariant
+    (c.in_ok-unique_entry.ensures ∙ ap (λ (es : List (Option Value)). judged (named_again (get_or c.args.reuse.now c.loop-k.k None) es)) c.behind.ensures) c.loop-k.invariant
 
 pub returns : goal.returns
 returns c = ended again c.args.reuse.now c.loop-k.k (omega arith) c.loop-k.invariant

@@ -5,16 +5,16 @@ use Rattle.model.specs.Edits.{among, reused}
 use Rattle.results.proofs.Each.{among_at}
 use Rattle.results.proofs.reuse.names.Goals as goal
 
-pub returns-then-is-entry : goal.returns-then-is-entry
-returns-then-is-entry c =
+pub returns-then-is_entry : goal.returns-then-is_entry
+returns-then-is_entry c =
     sym (among_at c.args.v c.args.reuse.now c.loop-entry.entry-index (omega arith)
-    ∙ ap (λ (b : Bool). b || among c.args.v (reused (drop (c.loop-entry.entry-index + 1) c.args.reuse.now))) (sym c.if-is-entry.ensures))
+    ∙ ap (λ (b : Bool). b || among c.args.v (reused (drop (c.loop-entry.entry-index + 1) c.args.reuse.now))) (sym c.if-is_entry.ensures))
     ∙ c.loop-entry.invariant
 
 pub loop-entry-preserved : goal.loop-entry-preserved
 loop-entry-preserved c =
     sym (among_at c.args.v c.args.reuse.now c.loop-entry.entry-index (omega arith)
-    ∙ ap (λ (b : Bool). b || among c.args.v (reused (drop (c.loop-entry.entry-index + 1) c.args.reuse.now))) (sym c.if-is-entry.ensures))
+    ∙ ap (λ (b : Bool). b || among c.args.v (reused (drop (c.loop-entry.entry-index + 1) c.args.reuse.now))) (sym c.if-is_entry.ensures))
     ∙ c.loop-entry.invariant
 
 pub returns : goal.returns

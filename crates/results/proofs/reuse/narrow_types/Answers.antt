@@ -10,16 +10,16 @@ use Rattle.results.proofs.reuse.narrow_types.Goals as goal
 abbrev wide : List Ty → Row
 wide ts = first_of (λ t. leb 16384 t.0) (λ t. Packing (Wide t.0)) ts
 
-pub returns-in-err-narrow-type : goal.returns-in-err-narrow-type
-returns-in-err-narrow-type c =
-    let p = err_from_is_err_and c.from-residual.result c.from-residual.ensures.1 in
+pub returns-in_err-narrow_type : goal.returns-in_err-narrow_type
+returns-in_err-narrow_type c =
+    let p = err_from_is_err_and c.from_residual.result c.from_residual.ensures.1 in
     rw (p.1, p.2) (stopped wide (λ t ts. wide (t ∷ [])) (first_each _ _)
-    c.args.types.now c.loop-ty.ty-index (record { 0 = 0 }) _ (omega arith) c.in-err-narrow-type.ensures c.loop-ty.invariant)
+    c.args.types.now c.loop-ty.ty-index (record { 0 = 0 }) _ (omega arith) c.in_err-narrow_type.ensures c.loop-ty.invariant)
 
 pub loop-ty-preserved : goal.loop-ty-preserved
 loop-ty-preserved c =
     passed wide (λ t ts. wide (t ∷ [])) (first_each _ _)
-    c.args.types.now c.loop-ty.ty-index (record { 0 = 0 }) (omega arith) c.in-ok-narrow-type.ensures c.loop-ty.invariant
+    c.args.types.now c.loop-ty.ty-index (record { 0 = 0 }) (omega arith) c.in_ok-narrow_type.ensures c.loop-ty.invariant
 
 pub returns : goal.returns
 returns c = ended wide c.args.types.now c.loop-ty.ty-index (omega arith) c.loop-ty.invariant

@@ -6,18 +6,18 @@ use Rattle.defs.specs.Graphs.{graph_of}
 use Rattle.results.proofs.Each.{passed, stopped, ended, reused_each}
 use Rattle.results.proofs.reuse.unretired_values.Goals as goal
 
-pub returns-in-err-unretired-entry : goal.returns-in-err-unretired-entry
-returns-in-err-unretired-entry c =
+pub returns-in_err-unretired_entry : goal.returns-in_err-unretired_entry
+returns-in_err-unretired_entry c =
     let g = graph_of c.args.defs.now in
-    let p = err_from_is_err_and c.from-residual.result c.from-residual.ensures.1 in
+    let p = err_from_is_err_and c.from_residual.result c.from_residual.ensures.1 in
     rw (p.1, p.2) (stopped (λ es. retired_values g (reused es)) (λ e es. retired_values g (reused (e ∷ []))) (reused_each _ _)
-    c.args.reuse.now c.loop-entry.entry-index None _ (omega arith) c.in-err-unretired-entry.ensures c.loop-entry.invariant)
+    c.args.reuse.now c.loop-entry.entry-index None _ (omega arith) c.in_err-unretired_entry.ensures c.loop-entry.invariant)
 
 pub loop-entry-preserved : goal.loop-entry-preserved
 loop-entry-preserved c =
     let g = graph_of c.args.defs.now in
     passed (λ es. retired_values g (reused es)) (λ e es. retired_values g (reused (e ∷ []))) (reused_each _ _)
-    c.args.reuse.now c.loop-entry.entry-index None (omega arith) c.in-ok-unretired-entry.ensures c.loop-entry.invariant
+    c.args.reuse.now c.loop-entry.entry-index None (omega arith) c.in_ok-unretired_entry.ensures c.loop-entry.invariant
 
 pub returns : goal.returns
 returns c =

@@ -18,13 +18,13 @@ seat-v-requires c =
     record {
       sound = c.loop-k.invariant.0;
       narrow = c.requires.fits.narrow c.loop-k.k (omega arith);
-      «open» = subst (λ (e : Option Value). Open (graph_of c.loop-k.defs) e) (sym c.entry-at.ensures)
+      «open» = subst (λ (e : Option Value). Open (graph_of c.loop-k.defs) e) (sym c.entry_at.ensures)
           (open_next (graph_of c.args.defs.now) c.args.inst c.args.list c.args.types.now c.args.reuse.now c.requires.fits c.loop-k.k (omega arith)
           (graph_of c.loop-k.defs) c.loop-k.invariant.1);
     }
 
-pub push-word-requires : goal.push-word-requires
-push-word-requires c =
+pub push_word-requires : goal.push_word-requires
+push_word-requires c =
     record {
       sound = c.seat-v.ensures.sound;
       fits = ap (λ (g : Graph). fault_push g.words c.args.list) c.seat-v.ensures.holds
@@ -36,13 +36,13 @@ pub loop-k-preserved : goal.loop-k-preserved
 loop-k-preserved c =
     let h = graph_of c.loop-k.defs in
     let ty = get_or c.args.types.now c.loop-k.k (record { 0 = 0 }) in
-    let e = c.entry-at.ensures in
+    let e = c.entry_at.ensures in
     let v : c.seat-v.result ≡ seat_of (length (graph_of c.loop-k.defs).defs) (get_or c.args.reuse.now c.loop-k.k None) =
     c.seat-v.ensures.says ∙ ap (seat_of (length (graph_of c.loop-k.defs).defs)) e in (
-      c.push-word.ensures.sound,
+      c.push_word.ensures.sound,
       more_seated (graph_of c.args.defs.now) c.args.inst c.args.list c.args.types.now c.args.reuse.now c.requires.fits c.loop-k.k (omega arith)
-          (graph_of c.loop-k.defs) c.loop-k.invariant.1 (graph_of c.push-word.new.self)
-          (c.push-word.ensures.holds
+          (graph_of c.loop-k.defs) c.loop-k.invariant.1 (graph_of c.push_word.new.self)
+          (c.push_word.ensures.holds
           ∙ (ap (λ (x : Graph). with_words x (pushed x.words c.args.list c.seat-v.result)) c.seat-v.ensures.holds
           ∙ (λ j. with_words (with_defs h (defined h.defs (seat_of (length h.defs) (e j)) (Inst ty c.loop-k.k c.args.inst))) (pushed h.words c.args.list (v j))))),
     )

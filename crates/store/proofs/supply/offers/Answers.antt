@@ -13,7 +13,7 @@ returns-then-class-gt29 c = sym (offer_past (stock c.args.sizes.now c.args.left)
 pub returns : goal.returns
 returns c =
     let n = count_at c.args.sizes.now.records (c.args.class - 1) in
-    let k = ap (λ r. r.count) c.record-of.ensures ∙ sym n in
-    let u = c.units-of.ensures in
+    let k = ap (λ r. r.count) c.record_of.ensures ∙ sym n in
+    let u = c.units_of.ensures in
     c.enough.ensures ∙ ((λ i. ltb 0 (k i) || leb (u i) c.args.left)
     ∙ sym (offer_size (stock c.args.sizes.now c.args.left) c.args.class (omega arith) (omega arith)))

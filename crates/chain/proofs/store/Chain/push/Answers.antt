@@ -6,8 +6,8 @@ use Rattle.chain.specs.Chain.{chain_mean}
 use Rattle.chain.proofs.Walks.{holds_chained, holds_walked}
 use Rattle.chain.proofs.store.Chain.push.Goals as goal
 
-pub push-cells-requires : goal.push-cells-requires
-push-cells-requires c =
+pub push_cells-requires : goal.push_cells-requires
+push_cells-requires c =
     let s = c.args.self.now in
     let os = c.args.operands.now in
     let u = c.write.new.self in
@@ -25,5 +25,5 @@ returns c =
     let W = c.write.ensures.same in
     let e : walked u.links.now (length os) u.used ≡ os =
     ap (walked u.links.now (length os)) W.used ∙ holds_walked u.links.now s.used (length os) os refl c.write.ensures.holds in
-    c.push-cells.ensures ∙ ap (λ (y : Table). with_row y (record { opcode = c.args.opcode; operands = walked u.links.now (length os) u.used })) W.mean
+    c.push_cells.ensures ∙ ap (λ (y : Table). with_row y (record { opcode = c.args.opcode; operands = walked u.links.now (length os) u.used })) W.mean
     ∙ ap (λ (l : List Value). with_row (chain_mean s) (record { opcode = c.args.opcode; operands = l })) e

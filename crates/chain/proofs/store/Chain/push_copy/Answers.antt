@@ -13,8 +13,8 @@ repeat-requires c =
     let s = c.args.self.now in
     record { source = below_at s c.args.i c.requires.within; chained = chained_at s c.args.i c.requires.within; words = c.requires.fits.words }
 
-pub push-cells-requires : goal.push-cells-requires
-push-cells-requires c =
+pub push_cells-requires : goal.push_cells-requires
+push_cells-requires c =
     let s = c.args.self.now in
     let x : ChainRow = at s.rows.now c.args.i in
     let u = c.repeat.new.self in
@@ -33,5 +33,5 @@ returns c =
     let os : List Value = walked s.links.now x.count x.first in
     let e : walked u.links.now x.count u.used ≡ os =
     ap (walked u.links.now x.count) W.used ∙ holds_walked u.links.now s.used x.count os (length_walked s.links.now x.count x.first) c.repeat.ensures.holds in
-    c.push-cells.ensures ∙ ap (λ (y : Table). with_row y (record { opcode = x.opcode; operands = walked u.links.now x.count u.used })) W.mean
+    c.push_cells.ensures ∙ ap (λ (y : Table). with_row y (record { opcode = x.opcode; operands = walked u.links.now x.count u.used })) W.mean
     ∙ ap (λ (l : List Value). with_row (chain_mean s) (record { opcode = x.opcode; operands = l })) e ∙ ap (with_row (chain_mean s)) (sym (row_is s c.args.i c.requires.within))

@@ -3,11 +3,22 @@ use Rattle.chain.specs.Links.{link}
 use Rattle.chain.proofs.Walks.{past_mean, past_sound}
 use Rattle.chain.proofs.store.Chain.put.Goals as goal
 
-pub invariant-of-self : goal.invariant-of-self
-invariant-of-self c =
+pub invariant_of-self : goal.invariant_of-self
+invariant_of-self c =
     let s = c.args.self.now in
     let T = past_sound s (s.used + c.args.k) (record { value = c.args.value; next = s.used + c.args.k + 1 }) (omega arith) in
-    (s.rows_room, (simp length-set s.links_room, (s.insts_small, (s.limit_small, (s.counted, (s.used_some, (T.linked, (T.below, (T.apart, (T.sums, tt))))))))))
+    record {
+      rows_room = s.rows_room;
+      links_room = simp length-set s.links_room;
+      insts_small = s.insts_small;
+      limit_small = s.limit_small;
+      counted = s.counted;
+      used_some = s.used_some;
+      linked = T.linked;
+      below = T.below;
+      apart = T.apart;
+      sums = T.sums;
+    }
 
 pub returns : goal.returns
 returns c =

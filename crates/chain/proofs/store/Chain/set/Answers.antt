@@ -4,12 +4,23 @@ use Rattle.chain.specs.Links.{no_cell, link, row_of}
 use Rattle.chain.proofs.Walks.{cells, Sound, set_mean, set_sound}
 use Rattle.chain.proofs.store.Chain.set.Goals as goal
 
-pub invariant-of-self : goal.invariant-of-self
-invariant-of-self c =
+pub invariant_of-self : goal.invariant_of-self
+invariant_of-self c =
     let s = c.args.self.now in
     let ls = s.links.now in
     let T = subst (λ (m : ℕ). Sound (set ls m (record { value = c.args.value; next = (link ls m).next })) (cells s) s.used) (sym c.find-at.ensures.place) (set_sound s c.args.i c.args.place c.args.value c.requires) in
-    (s.rows_room, (simp length-set s.links_room, (s.insts_small, (s.limit_small, (s.counted, (s.used_some, (T.linked, (T.below, (T.apart, (T.sums, tt))))))))))
+    record {
+      rows_room = s.rows_room;
+      links_room = simp length-set s.links_room;
+      insts_small = s.insts_small;
+      limit_small = s.limit_small;
+      counted = s.counted;
+      used_some = s.used_some;
+      linked = T.linked;
+      below = T.below;
+      apart = T.apart;
+      sums = T.sums;
+    }
 
 pub returns : goal.returns
 returns c =

@@ -15,8 +15,8 @@ pub returns : goal.returns
 returns c =
     let words = fresh_count (bank c.new-words.result) _ _ c.new-words.ensures.holds in
     let starts = fresh_count (bank c.new-starts.result) _ _ c.new-starts.ensures.holds in
-    let blocks = c.limits-block-limit.ensures.blocks in
-    let insts = c.limits-block-limit.ensures.insts in
+    let blocks = c.limits-block_limit.ensures.blocks in
+    let insts = c.limits-block_limit.ensures.insts in
     let limit = c.new-values.ensures.limit in
     let most : c.new-values.result.limit ≡ min (min (length c.args.values.now) (min (length c.args.labels.now) (length c.args.starts.heads.now))) 1073741824 =
     omega arith in

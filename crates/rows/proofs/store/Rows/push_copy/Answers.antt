@@ -8,8 +8,8 @@ use Rattle.rows.proofs.Words.{short_ops, long_ops}
 use Rattle.rows.proofs.Means.{row_is, count_at, source}
 use Rattle.rows.proofs.store.Rows.push_copy.Goals as goal
 
-pub push-short-requires : goal.push-short-requires
-push-short-requires c =
+pub push_short-requires : goal.push_short-requires
+push_short-requires c =
     let s = c.args.self.now in
     let x : RowCell = at s.rows.now c.args.i in
     record {
@@ -21,8 +21,8 @@ push-short-requires c =
 pub repeat-requires : goal.repeat-requires
 repeat-requires c = record { source = source c.args.self.now c.args.i c.requires.within c.if-n-le3.false; words = c.requires.fits.words }
 
-pub push-long-requires : goal.push-long-requires
-push-long-requires c =
+pub push_long-requires : goal.push_long-requires
+push_long-requires c =
     let W = c.repeat.ensures.same in
     record { fits = record { inst = omega (arith, c.requires.fits.inst, W.count, W.insts); words = omega (arith, c.requires.fits.words, W.total, W.limit) }; many = c.if-n-le3.false }
 
@@ -30,7 +30,7 @@ pub returns-then-n-le3 : goal.returns-then-n-le3
 returns-then-n-le3 c =
     let s = c.args.self.now in
     let x : RowCell = at s.rows.now c.args.i in
-    c.push-short.ensures
+    c.push_short.ensures
     ∙ ap (with_row (rows_mean s)) (sym (row_is s c.args.i c.requires.within ∙ ap (λ (l : List Value). record { opcode = x.opcode; operands = l }) (short_ops s.words.now x c.if-n-le3.true)))
 
 pub returns-else-n-le3 : goal.returns-else-n-le3
@@ -40,6 +40,6 @@ returns-else-n-le3 c =
     let u = c.repeat.new.self in
     let os : operands_of s.words.now x ≡ take x.count (drop u.used u.words.now) =
     long_ops s.words.now x c.if-n-le3.false ∙ sym (ap (λ (n : ℕ). take x.count (drop n u.words.now)) c.repeat.ensures.same.used ∙ c.repeat.ensures.words) in
-    c.push-long.ensures
+    c.push_long.ensures
     ∙ ap (λ (y : Table). with_row y (record { opcode = x.opcode; operands = take x.count (drop u.used u.words.now) })) c.repeat.ensures.same.mean
     ∙ ap (with_row (rows_mean s)) (sym (row_is s c.args.i c.requires.within ∙ ap (λ (l : List Value). record { opcode = x.opcode; operands = l }) os))

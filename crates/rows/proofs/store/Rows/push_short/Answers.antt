@@ -4,13 +4,25 @@ use Rattle.rows.specs.Cells.{operands_of}
 use Rattle.rows.proofs.Words.{short_ops, push_mean, push_sound}
 use Rattle.rows.proofs.store.Rows.push_short.Goals as goal
 
-pub invariant-of-self : goal.invariant-of-self
-invariant-of-self c =
+pub invariant_of-self : goal.invariant_of-self
+invariant_of-self c =
     let s = c.args.self.now in
     let d : RowCell = record { opcode = c.args.opcode; count = c.args.n; start = 0; short = c.args.short } in
     let o : length (operands_of s.words.now d) ≡ c.args.n = ap length (short_ops s.words.now d c.requires.few) ∙ c.requires.whole in
     let T = push_sound s d c.requires.fits s.used o (omega arith) (λ l. absurd (omega (arith, l, c.requires.few))) in
-    (simp length-set s.rows_room, (s.words_room, (s.insts_small, (s.limit_small, (omega (arith, c.requires.fits.inst), (omega (arith, s.used_some), (c.requires.fits.words, (T.full, (T.below, (T.apart, (T.sums, tt)))))))))))
+    record {
+      rows_room = simp length-set s.rows_room;
+      words_room = s.words_room;
+      insts_small = s.insts_small;
+      limit_small = s.limit_small;
+      counted = omega (arith, c.requires.fits.inst);
+      used_some = omega (arith, s.used_some);
+      total_some = c.requires.fits.words;
+      full = T.full;
+      below = T.below;
+      apart = T.apart;
+      sums = T.sums;
+    }
 
 pub returns : goal.returns
 returns c =

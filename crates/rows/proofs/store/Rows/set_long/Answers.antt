@@ -7,11 +7,23 @@ use Rattle.rows.proofs.store.Rows.set_long.Goals as goal
 pub bounds-self-at : goal.bounds-self-at
 bounds-self-at c = long_within c.args.self.now c.args.i c.args.place no_value c.requires.placed c.requires.many
 
-pub invariant-of-self : goal.invariant-of-self
-invariant-of-self c =
+pub invariant_of-self : goal.invariant_of-self
+invariant_of-self c =
     let s = c.args.self.now in
     let T = long_sound s c.args.i c.args.place c.args.value c.requires.placed c.requires.many in
-    (s.rows_room, (simp length-set s.words_room, (s.insts_small, (s.limit_small, (s.counted, (s.used_some, (s.total_some, (T.full, (T.below, (T.apart, (T.sums, tt)))))))))))
+    record {
+      rows_room = s.rows_room;
+      words_room = simp length-set s.words_room;
+      insts_small = s.insts_small;
+      limit_small = s.limit_small;
+      counted = s.counted;
+      used_some = s.used_some;
+      total_some = s.total_some;
+      full = T.full;
+      below = T.below;
+      apart = T.apart;
+      sums = T.sums;
+    }
 
 pub returns : goal.returns
 returns c = long_mean c.args.self.now c.args.i c.args.place c.args.value c.requires.placed c.requires.many

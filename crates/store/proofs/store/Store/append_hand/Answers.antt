@@ -8,12 +8,12 @@ use Rattle.store.proofs.Items.{append_hand, lists_kept_one}
 use Rattle.store.proofs.Stores.{same_held, sounds, hand_in, hand_long}
 use Rattle.store.proofs.store.Store.append_hand.Goals as goal
 
-pub overflow-mul-hand : goal.overflow-mul-hand
-overflow-mul-hand g c = let b = hand_in c.args.self.now c.requires.sound in search rules
+pub overflow_mul-hand : goal.overflow_mul-hand
+overflow_mul-hand g c = let b = hand_in c.args.self.now c.requires.sound in search rules
 
-pub overflow-add-hand : goal.overflow-add-hand
+pub overflow_add-hand : goal.overflow_add-hand
 unfolding held owned
-overflow-add-hand g c =
+overflow_add-hand g c =
     let b = hand_in c.args.self.now c.requires.sound in
     let n = hand_long c.args.self.now c.requires.sound in
     search rules

@@ -9,14 +9,14 @@ use Rattle.store.proofs.Items.{gap_hand, lists_kept}
 use Rattle.store.proofs.Stores.{same_held, sounds, hand_in, hand_long}
 use Rattle.store.proofs.store.Store.close_gap.Goals as goal
 
-pub overflow-sub-hand : goal.overflow-sub-hand
-overflow-sub-hand g c = let n = hand_long c.args.self.now c.requires.sound in search rules
+pub overflow_sub-hand : goal.overflow_sub-hand
+overflow_sub-hand g c = let n = hand_long c.args.self.now c.requires.sound in search rules
 
-pub overflow-sub-hand-2 : goal.overflow-sub-hand-2
-overflow-sub-hand-2 g c = let n = hand_long c.args.self.now c.requires.sound in search rules
+pub overflow_sub-hand-2 : goal.overflow_sub-hand-2
+overflow_sub-hand-2 g c = let n = hand_long c.args.self.now c.requires.sound in search rules
 
-pub overflow-sub-self : goal.overflow-sub-self
-overflow-sub-self g c = let n = hand_long c.args.self.now c.requires.sound in search rules
+pub overflow_sub-self : goal.overflow_sub-self
+overflow_sub-self g c = let n = hand_long c.args.self.now c.requires.sound in search rules
 
 pub shift-requires : goal.shift-requires
 unfolding held owned

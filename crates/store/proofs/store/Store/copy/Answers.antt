@@ -28,14 +28,14 @@ bounds-self-to g c =
     let k = write_known b c.args.to (length (items_of b c.args.from)) (sym (copy_write b c.args.from c.args.to h) ∙ c.requires.fits) in
     omega arith
 
-pub copy-anew-requires : goal.copy-anew-requires
-copy-anew-requires g c =
+pub copy_anew-requires : goal.copy_anew-requires
+copy_anew-requires g c =
     let s = c.args.self.now in
     let b = bank s in
     let l = c.args.to in
     let n = length (items_of b c.args.from) in
     let k = class_of_is s c.requires.ready.sound c.args.to in
-    let e = c.class-for-class.ensures ∙ ap smallest c.len.ensures in
+    let e = c.class_for-class.ensures ∙ ap smallest c.len.ensures in
     let h = copy_known b c.args.from c.args.to c.requires.fits in
     let w = sym (copy_write b c.args.from c.args.to h) ∙ c.requires.fits in
     let p = write_known b l n w in
@@ -52,14 +52,14 @@ copy-anew-requires g c =
       room = subst (λ m. length (items_of (bank c.args.self.now) c.args.from) ≤ 4 * units m) (sym e) r;
     }
 
-pub copy-over-requires : goal.copy-over-requires
-copy-over-requires g c =
+pub copy_over-requires : goal.copy_over-requires
+copy_over-requires g c =
     let s = c.args.self.now in
     let b = bank s in
     let ok = c.requires.ready.sound in
     let n = length (items_of b c.args.from) in
     let k = class_of_is s ok c.args.to in
-    let e = c.class-for-class.ensures ∙ ap smallest c.len.ensures in
+    let e = c.class_for-class.ensures ∙ ap smallest c.len.ensures in
     let f = (ok.filled.1 c.args.to).1 in
     let h = copy_known b c.args.from c.args.to c.requires.fits in
     let w = sym (copy_write b c.args.from c.args.to h) ∙ c.requires.fits in
@@ -78,7 +78,7 @@ copy-over-requires g c =
 pub returns-then-class-eq0 : goal.returns-then-class-eq0
 returns-then-class-eq0 g c =
     let s = c.args.self.now in
-    let e = sym (c.class-for-class.ensures ∙ ap smallest c.len.ensures) ∙ c.if-class-eq0.true in
+    let e = sym (c.class_for-class.ensures ∙ ap smallest c.len.ensures) ∙ c.if-class-eq0.true in
     let r = emptied s c.settle.new.self c.args.to c.requires.ready c.settle.ensures.sound c.settle.ensures.empty c.settle.ensures.holds in
     record { ready = r.0; holds = r.1 ∙ sym (written_none (bank s) c.args.to (items_of (bank s) c.args.from) e) }
 
@@ -87,10 +87,10 @@ returns-then-class-self g c =
     let s = c.args.self.now in
     let xs = items_of (bank s) c.args.from in
     let k = class_of_is s c.requires.ready.sound c.args.to in
-    let e = c.class-for-class.ensures ∙ ap smallest c.len.ensures in
+    let e = c.class_for-class.ensures ∙ ap smallest c.len.ensures in
     record {
-      ready = c.copy-anew.ensures.ready;
-      holds = c.copy-anew.ensures.holds
+      ready = c.copy_anew.ensures.ready;
+      holds = c.copy_anew.ensures.holds
           ∙ (ap (λ n. holding (cleared (obtained (bank s) n) c.args.to) c.args.to (items_of (bank s) c.args.from) n) e
           ∙ sym (written_move (bank s) c.args.to xs (λ q. c.if-class-self.true (e ∙ (q ∙ k)))));
     }
@@ -101,10 +101,10 @@ returns-then-from-to g c =
     let ok = c.requires.ready.sound in
     let k = class_of_is s ok c.args.to in
     let f = (ok.filled.1 c.args.to).1 in
-    let e = sym (c.class-for-class.ensures ∙ ap smallest c.len.ensures) ∙ (c.if-class-self.false ∙ sym k) in
+    let e = sym (c.class_for-class.ensures ∙ ap smallest c.len.ensures) ∙ (c.if-class-self.false ∙ sym k) in
     record {
-      ready = c.copy-over.ensures.ready;
-      holds = c.copy-over.ensures.holds ∙ sym (written_own (bank s) c.args.to (items_of (bank s) c.args.from) (free_many s ok) (omega arith) e);
+      ready = c.copy_over.ensures.ready;
+      holds = c.copy_over.ensures.holds ∙ sym (written_own (bank s) c.args.to (items_of (bank s) c.args.from) (free_many s ok) (omega arith) e);
     }
 
 pub returns-else-from-to : goal.returns-else-from-to
@@ -113,7 +113,7 @@ returns-else-from-to g c =
     let ok = c.requires.ready.sound in
     let k = class_of_is s ok c.args.to in
     let f = (ok.filled.1 c.args.to).1 in
-    let e = sym (c.class-for-class.ensures ∙ ap smallest c.len.ensures) ∙ (c.if-class-self.false ∙ sym k) in
+    let e = sym (c.class_for-class.ensures ∙ ap smallest c.len.ensures) ∙ (c.if-class-self.false ∙ sym k) in
     let same = ap (λ m. items_of (bank s) m) c.if-from-to.false in
     record {
       ready = c.requires.ready;

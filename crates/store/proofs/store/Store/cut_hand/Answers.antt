@@ -18,5 +18,5 @@ returns g c =
       holds = same_held (cut_hand s.cells.now s.hand (omega arith)) refl refl refl;
     }
 
-pub overflow-sub-self : goal.overflow-sub-self
-overflow-sub-self g c = let n = hand_long c.args.self.now c.requires.sound in search rules
+pub overflow_sub-self : goal.overflow_sub-self
+overflow_sub-self g c = let n = hand_long c.args.self.now c.requires.sound in search rules

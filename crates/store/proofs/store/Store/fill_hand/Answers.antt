@@ -13,9 +13,9 @@ pub fill-requires : goal.fill-requires
 unfolding held owned
 fill-requires g c = let b = hand_in c.args.self.now c.requires.sound in omega arith
 
-pub overflow-cast-self : goal.overflow-cast-self
+pub overflow_cast-self : goal.overflow_cast-self
 unfolding held owned
-overflow-cast-self g c = let b = hand_in c.args.self.now c.requires.sound in search rules
+overflow_cast-self g c = let b = hand_in c.args.self.now c.requires.sound in search rules
 
 pub returns : goal.returns
 unfolding held owned

@@ -9,7 +9,7 @@ use Rattle.store.proofs.store.Store.new.Goals as goal
 pub returns : goal.returns
 unfolding bank fresh
 returns g c =
-    let m = c.usable-units-limit.ensures in
+    let m = c.usable_units-limit.ensures in
     let k = c.min-lists.ensures in
     let len : length (take (c.min-lists.result - 0) c.args.heads.now) ≡ min (length c.args.heads.now) 4294967296 = simp length-take (omega arith) in
     let hs = c.wipe.ensures ∙ ap (λ j. replicate j no_head) len in

@@ -35,7 +35,7 @@ replace-requires g c =
     let b = bank s in
     let l = c.args.l in
     let k = class_of_is s c.requires.ready.sound c.args.l in
-    let e = c.class-for-class.ensures in
+    let e = c.class_for-class.ensures in
     let h = write_known b l c.args.n c.requires.fits in
     let o = none_block b c.args.n (sym (other_block b l c.args.n (λ q. c.if-class-self.false (e ∙ (q ∙ k)))) ∙ (sym (write_block b l c.args.n h) ∙ c.requires.fits)) in
     record {
@@ -49,7 +49,7 @@ replace-requires g c =
 pub returns-then-class-eq0 : goal.returns-then-class-eq0
 returns-then-class-eq0 g c =
     let s = c.args.self.now in
-    let e = sym c.class-for-class.ensures ∙ c.if-class-eq0.true in
+    let e = sym c.class_for-class.ensures ∙ c.if-class-eq0.true in
     let r = emptied s c.settle.new.self c.args.l c.requires.ready c.settle.ensures.sound c.settle.ensures.empty c.settle.ensures.holds in
     record { ready = r.0; holds = r.1 ∙ sym (reserved_none (bank s) c.args.l (smallest c.args.n) e) }
 
@@ -59,7 +59,7 @@ returns-then-class-self g c =
     let ok = c.requires.ready.sound in
     let k = class_of_is s ok c.args.l in
     let f = (ok.filled.1 c.args.l).1 in
-    let e = sym c.class-for-class.ensures ∙ (c.if-class-self.true ∙ sym k) in
+    let e = sym c.class_for-class.ensures ∙ (c.if-class-self.true ∙ sym k) in
     record {
       ready = c.overwrite.ensures.ready;
       holds = c.overwrite.ensures.holds
@@ -71,7 +71,7 @@ pub returns-else-class-self : goal.returns-else-class-self
 returns-else-class-self g c =
     let s = c.args.self.now in
     let k = class_of_is s c.requires.ready.sound c.args.l in
-    let e = c.class-for-class.ensures in
+    let e = c.class_for-class.ensures in
     record {
       ready = c.replace.ensures.ready;
       holds = c.replace.ensures.holds

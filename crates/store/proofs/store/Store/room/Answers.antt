@@ -8,19 +8,19 @@ use Rattle.store.proofs.store.Store.room.Goals as goal
 pub returns-then-l-self : goal.returns-then-l-self
 returns-then-l-self g c = let m = many c.args.self.now in sym (push_unknown (bank c.args.self.now) c.args.l (omega arith))
 
-pub is-roomy-requires : goal.is-roomy-requires
-is-roomy-requires g c = let m = many c.args.self.now in record { ready = c.requires.ready; within = omega arith }
+pub is_roomy-requires : goal.is_roomy-requires
+is_roomy-requires g c = let m = many c.args.self.now in record { ready = c.requires.ready; within = omega arith }
 
 pub len-requires : goal.len-requires
 len-requires g c = let m = many c.args.self.now in record { ready = c.requires.ready; within = omega arith }
 
-pub returns-then-is-roomy : goal.returns-then-is-roomy
-returns-then-is-roomy g c =
+pub returns-then-is_roomy : goal.returns-then-is_roomy
+returns-then-is_roomy g c =
     let m = many c.args.self.now in
-    sym (ap judged (push_roomy (bank c.args.self.now) c.args.l (omega arith) (sym c.if-is-roomy.ensures)))
+    sym (ap judged (push_roomy (bank c.args.self.now) c.args.l (omega arith) (sym c.if-is_roomy.ensures)))
 
 pub returns : goal.returns
 returns g c =
     let m = many c.args.self.now in
-    c.room-block.ensures ∙ (ap (λ n. judged (fault_block (bank c.args.self.now) (n + 1))) c.len.ensures
-    ∙ sym (ap judged (push_grows (bank c.args.self.now) c.args.l (omega arith) (sym c.if-is-roomy.ensures))))
+    c.room_block.ensures ∙ (ap (λ n. judged (fault_block (bank c.args.self.now) (n + 1))) c.len.ensures
+    ∙ sym (ap judged (push_grows (bank c.args.self.now) c.args.l (omega arith) (sym c.if-is_roomy.ensures))))

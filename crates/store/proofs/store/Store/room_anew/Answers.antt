@@ -9,14 +9,14 @@ use Rattle.store.proofs.store.Store.room_anew.Goals as goal
 pub returns-then-l-self : goal.returns-then-l-self
 returns-then-l-self g c = let m = many c.args.self.now in sym (write_unknown (bank c.args.self.now) c.args.l c.args.n (omega arith))
 
-pub returns-then-class-for-self : goal.returns-then-class-for-self
-returns-then-class-for-self g c =
+pub returns-then-class_for-self : goal.returns-then-class_for-self
+returns-then-class_for-self g c =
     let s = c.args.self.now in
     let ok = c.requires.ready.sound in
     let m = many s in
     let k = class_of_is s ok c.args.l in
     let f = (ok.filled.1 c.args.l).1 in
-    let e = sym c.class-for.ensures ∙ (c.if-class-for-self.true ∙ sym k) in
+    let e = sym c.class_for.ensures ∙ (c.if-class_for-self.true ∙ sym k) in
     sym (ap judged (write_block (bank s) c.args.l c.args.n (omega arith)
     ∙ own_block (bank s) c.args.l (free_many s ok) (omega arith) c.args.n e))
 
@@ -26,5 +26,5 @@ returns g c =
     let ok = c.requires.ready.sound in
     let m = many s in
     let k = class_of_is s ok c.args.l in
-    c.room-block.ensures ∙ sym (ap judged (write_block (bank s) c.args.l c.args.n (omega arith)
-    ∙ other_block (bank s) c.args.l c.args.n (λ e. c.if-class-for-self.false (c.class-for.ensures ∙ (e ∙ k)))))
+    c.room_block.ensures ∙ sym (ap judged (write_block (bank s) c.args.l c.args.n (omega arith)
+    ∙ other_block (bank s) c.args.l c.args.n (λ e. c.if-class_for-self.false (c.class_for.ensures ∙ (e ∙ k)))))

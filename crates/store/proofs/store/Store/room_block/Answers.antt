@@ -10,7 +10,7 @@ pub returns-then-offers : goal.returns-then-offers
 returns-then-offers g c =
     let s = c.args.self.now in
     let q = store_stock s in
-    let e = ap (obtainable (stock s.sizes (s.limit - s.used))) c.class-for.ensures in
+    let e = ap (obtainable (stock s.sizes (s.limit - s.used))) c.class_for.ensures in
     let o : obtainable (bank c.args.self.now) (smallest c.args.n) ≡ true =
     same_offer (bank s) (stock s.sizes (s.limit - s.used)) (smallest c.args.n) q.0 q.1 ∙ (sym e ∙ sym c.if-offers.ensures) in
     sym (ap judged (block_none (bank s) c.args.n o))
@@ -19,7 +19,7 @@ pub returns : goal.returns
 returns g c =
     let s = c.args.self.now in
     let q = store_stock s in
-    let e = ap (obtainable (stock s.sizes (s.limit - s.used))) c.class-for.ensures in
+    let e = ap (obtainable (stock s.sizes (s.limit - s.used))) c.class_for.ensures in
     let o : obtainable (bank c.args.self.now) (smallest c.args.n) ≡ false =
     same_offer (bank s) (stock s.sizes (s.limit - s.used)) (smallest c.args.n) q.0 q.1 ∙ (sym e ∙ sym c.if-offers.ensures) in
-    ap Err c.no-block.ensures ∙ sym (ap judged (block_some (bank s) c.args.n o))
+    ap Err c.no_block.ensures ∙ sym (ap judged (block_some (bank s) c.args.n o))

@@ -14,5 +14,5 @@ len-requires g c = let m = many c.args.self.now in record { ready = c.requires.r
 pub returns : goal.returns
 returns g c =
     let m = many c.args.self.now in
-    c.room-anew.ensures ∙ (ap (λ n. judged (fault_write (bank c.args.self.now) c.args.to n)) c.len.ensures
+    c.room_anew.ensures ∙ (ap (λ n. judged (fault_write (bank c.args.self.now) c.args.to n)) c.len.ensures
     ∙ sym (ap judged (copy_write (bank c.args.self.now) c.args.from c.args.to (omega arith))))

@@ -20,8 +20,8 @@ returns-then-not-offers g c =
     let n = get_or c.args.lengths.now c.loop-n.n-index 0 in
     let d = stock c.loop-n.sizes c.loop-n.left in
     let e = drop_more ns i 0 (omega arith) in
-    let o = sym (ap (obtainable d) c.class-for-class.ensures) ∙ sym c.if-not-offers.ensures in
-    ap Err c.no-block.ensures ∙ sym (ap judged (c.loop-n.invariant ∙ (ap (fault_for d) e ∙ for_stop d n (drop (i + 1) ns) o)))
+    let o = sym (ap (obtainable d) c.class_for-class.ensures) ∙ sym c.if-not-offers.ensures in
+    ap Err c.no_block.ensures ∙ sym (ap judged (c.loop-n.invariant ∙ (ap (fault_for d) e ∙ for_stop d n (drop (i + 1) ns) o)))
 
 pub spend-left-requires : goal.spend-left-requires
 spend-left-requires g c = sym c.if-not-offers.ensures
@@ -33,9 +33,9 @@ loop-n-preserved g c =
     let n = get_or c.args.lengths.now c.loop-n.n-index 0 in
     let d = stock c.loop-n.sizes c.loop-n.left in
     let e = drop_more ns i 0 (omega arith) in
-    let o = sym (ap (obtainable d) c.class-for-class.ensures) ∙ sym c.if-not-offers.ensures in
+    let o = sym (ap (obtainable d) c.class_for-class.ensures) ∙ sym c.if-not-offers.ensures in
     c.loop-n.invariant ∙ (ap (fault_for d) e ∙ (for_more d n (drop (i + 1) ns) o
-    ∙ ap (λ b. fault_for b (drop (i + 1) ns)) (sym (c.spend-left.ensures ∙ ap (obtained d) c.class-for-class.ensures))))
+    ∙ ap (λ b. fault_for b (drop (i + 1) ns)) (sym (c.spend-left.ensures ∙ ap (obtained d) c.class_for-class.ensures))))
 
 pub returns : goal.returns
 returns g c =

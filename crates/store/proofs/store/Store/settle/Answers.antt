@@ -9,24 +9,24 @@ use Rattle.store.proofs.store.Store.settle.Goals as goal
 
 pub returns-then-self-gt0 : goal.returns-then-self-gt0
 returns-then-self-gt0 g c =
-    let t = c.free-hand.new.self in
-    let e = c.free-hand.ensures.holds ∙ ap freeing c.swap-hand.ensures.holds in
+    let t = c.free_hand.new.self in
+    let e = c.free_hand.ensures.holds ∙ ap freeing c.swap_hand.ensures.holds in
     record {
-      sound = c.free-hand.ensures.sound;
+      sound = c.free_hand.ensures.sound;
       holds = e;
-      empty = sym (hand_class t c.free-hand.ensures.sound) ∙ ap (λ h. h.hand.class) e;
+      empty = sym (hand_class t c.free_hand.ensures.sound) ∙ ap (λ h. h.hand.class) e;
     }
 
 pub returns-else-self-gt0 : goal.returns-else-self-gt0
 returns-else-self-gt0 g c =
     let s = c.args.self.now in
-    let t = c.swap-hand.new.self in
-    let z : c.swap-hand.new.self.hand.class ≡ 0 = omega arith in
-    let w = c.swap-hand.ensures.holds in
-    let k : (get_or (held s).lists c.args.l nothing).class ≡ 0 = sym (ap (λ h. h.hand.class) w) ∙ (hand_class t c.swap-hand.ensures.sound ∙ z) in
-    let n : (held c.swap-hand.new.self).hand ≡ nothing = nothing_in_hand t c.swap-hand.ensures.sound z in
+    let t = c.swap_hand.new.self in
+    let z : c.swap_hand.new.self.hand.class ≡ 0 = omega arith in
+    let w = c.swap_hand.ensures.holds in
+    let k : (get_or (held s).lists c.args.l nothing).class ≡ 0 = sym (ap (λ h. h.hand.class) w) ∙ (hand_class t c.swap_hand.ensures.sound ∙ z) in
+    let n : (held c.swap_hand.new.self).hand ≡ nothing = nothing_in_hand t c.swap_hand.ensures.sound z in
     record {
-      sound = c.swap-hand.ensures.sound;
+      sound = c.swap_hand.ensures.sound;
       holds = w ∙ same_held (sym (ap (λ h. h.hand) w) ∙ n) refl (sym (spared_none (held s).free (get_or (held s).lists c.args.l nothing).class k)) refl;
       empty = z;
     }

@@ -26,6 +26,6 @@ returns-else-n-eq1 g c =
     let e = c.len-n.ensures in
     let n = swapped_length xs c.args.i c.requires.below in
     record {
-      ready = c.swap-remove-within.ensures.ready;
-      holds = c.swap-remove-within.ensures.holds ∙ sym (shortened_some (bank s) c.args.l (swapped_out xs c.args.i) (omega arith));
+      ready = c.swap_remove_within.ensures.ready;
+      holds = c.swap_remove_within.ensures.holds ∙ sym (shortened_some (bank s) c.args.l (swapped_out xs c.args.i) (omega arith));
     }

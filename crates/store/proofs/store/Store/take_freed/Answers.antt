@@ -13,7 +13,7 @@ pub bounds-self-block : goal.bounds-self-block
 bounds-self-block g c =
     let s = c.args.self.now in
     let b = first_below (view s) c.requires.sound.apart c.args.k c.requires.some in
-    let e = ap (λ r. r.first) c.record-of-block.ensures in
+    let e = ap (λ r. r.first) c.record_of-block.ensures in
     omega arith
 
 pub returns : goal.returns
@@ -24,10 +24,10 @@ returns g c =
     let ok = c.requires.sound in
     let j = c.args.k in
     let k : c.args.k < length c.args.self.now.sizes.records = omega arith in
-    let w = is_reused v j c.record-of-block.result.first c.pop.new.self.records (ap (λ r. r.first) c.record-of-block.ensures) c.pop.ensures in
+    let w = is_reused v j c.record_of-block.result.first c.pop.new.self.records (ap (λ r. r.first) c.record_of-block.ensures) c.pop.ensures in
     let n : 0 < get_or (map (λ x. x.count) c.args.self.now.sizes.records) c.args.k 0 = omega (arith, count_at s.sizes.records j) in
     let b = first_below (view s) ok.apart j c.requires.some in
-    let f = ap (λ r. r.first) c.record-of-block.ensures in
+    let f = ap (λ r. r.first) c.record_of-block.ensures in
     let o = obtained_freed (shown (held s)) j n in
     record {
       sound = sounds
@@ -37,7 +37,7 @@ returns g c =
           (ok.room.0, ok.room.1, ok.room.2, ok.room.3, ap length c.pop.ensures ∙ (length-set _ _ _ ∙ ok.room.4));
       holds = same_held refl refl
           (ap (map (λ x. x.count)) c.pop.ensures
-          ∙ (map-set (λ x. x.count) s.sizes.records j (record { first = get_or s.links.now c.record-of-block.result.first 0; count = (get_or s.sizes.records j no_record).count - 1 })
+          ∙ (map-set (λ x. x.count) s.sizes.records j (record { first = get_or s.links.now c.record_of-block.result.first 0; count = (get_or s.sizes.records j no_record).count - 1 })
           ∙ (ap (λ n. set (map (λ x. x.count) s.sizes.records) j (n - 1)) (sym (count_at s.sizes.records j))
           ∙ sym (ap (λ b. b.free) o))))
           (sym (ap (λ b. b.left) o));

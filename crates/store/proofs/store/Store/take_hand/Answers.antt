@@ -7,13 +7,13 @@ use Rattle.store.proofs.Models.{had_size}
 use Rattle.store.proofs.Stores.{free_is}
 use Rattle.store.proofs.store.Store.take_hand.Goals as goal
 
-pub record-of-requires : goal.record-of-requires
-record-of-requires g c = (had_size (shown (held c.args.self.now)) c.args.class c.requires.some c.requires.had).0
+pub record_of-requires : goal.record_of-requires
+record_of-requires g c = (had_size (shown (held c.args.self.now)) c.args.class c.requires.some c.requires.had).0
 
-pub take-freed-requires : goal.take-freed-requires
-take-freed-requires g c =
+pub take_freed-requires : goal.take_freed-requires
+take_freed-requires g c =
     let s = c.args.self.now in
-    let e = ap (λ r. r.count) c.record-of.ensures in
+    let e = ap (λ r. r.count) c.record_of.ensures in
     record {
       sound = c.requires.sound;
       empty = c.requires.empty;
@@ -21,11 +21,11 @@ take-freed-requires g c =
       some = omega arith;
     }
 
-pub take-new-requires : goal.take-new-requires
+pub take_new-requires : goal.take_new-requires
 unfolding held
-take-new-requires g c =
+take_new-requires g c =
     let s = c.args.self.now in
-    let e = ap (λ r. r.count) c.record-of.ensures in
+    let e = ap (λ r. r.count) c.record_of.ensures in
     let h = had_size (shown (held s)) c.args.class c.requires.some c.requires.had in
     let f = free_is s c.requires.sound (c.args.class - 1) in
     record {

@@ -8,9 +8,9 @@ use Rattle.store.proofs.Models.{obtained_new}
 use Rattle.store.proofs.Stores.{same_held, sounds, count_at}
 use Rattle.store.proofs.store.Store.take_new.Goals as goal
 
-pub overflow-add-self-2 : goal.overflow-add-self-2
-overflow-add-self-2 g c =
-    let e = c.units-of-size.ensures in
+pub overflow_add-self-2 : goal.overflow_add-self-2
+overflow_add-self-2 g c =
+    let e = c.units_of-size.ensures in
     let u = units_at c.args.k in
     search rules
 
@@ -21,12 +21,12 @@ returns g c =
     let v = view s in
     let ok = c.requires.sound in
     let j = c.args.k in
-    let e = c.units-of-size.ensures in
+    let e = c.units_of-size.ensures in
     let u = units_at c.args.k in
-    let w = is_broken v j c.units-of-size.result e in
+    let w = is_broken v j c.units_of-size.result e in
     let n : get_or (map (λ x. x.count) c.args.self.now.sizes.records) c.args.k 0 ≤ 0 = omega (arith, count_at s.sizes.records j) in
     let o = obtained_new (shown (held s)) j n in
-    let d : (c.args.self.now.limit - (c.args.self.now.used + c.units-of-size.result)) ≡ c.args.self.now.limit - c.args.self.now.used - 2 ^ c.args.k = omega arith in
+    let d : (c.args.self.now.limit - (c.args.self.now.used + c.units_of-size.result)) ≡ c.args.self.now.limit - c.args.self.now.used - 2 ^ c.args.k = omega arith in
     record {
       sound = sounds
           (subst Apart (sym w) (break_apart v j ok.apart))

@@ -23,7 +23,7 @@ overwrite-requires g c =
     let s = c.args.self.now in
     let ok = c.requires.ready.sound in
     let k = class_of_is s ok c.args.l in
-    let e = c.class-for-class.ensures in
+    let e = c.class_for-class.ensures in
     let f = (ok.filled.1 c.args.l).1 in
     let r = smallest_holds (length c.args.xs.now) (omega arith) in
     let q : smallest (length c.args.xs.now) ≡ class_of (bank c.args.self.now) c.args.l = omega arith in
@@ -42,7 +42,7 @@ replace-requires g c =
     let l = c.args.l in
     let n = length c.args.xs.now in
     let k = class_of_is s c.requires.ready.sound c.args.l in
-    let e = c.class-for-class.ensures in
+    let e = c.class_for-class.ensures in
     let h = write_known (bank s) c.args.l (length c.args.xs.now) c.requires.fits in
     let o = none_block b n (sym (other_block b l n (λ q. c.if-class-self.false (e ∙ (q ∙ k)))) ∙ (sym (write_block b l n h) ∙ c.requires.fits)) in
     let z : 0 < smallest (length c.args.xs.now) = omega arith in
@@ -59,7 +59,7 @@ replace-requires g c =
 pub returns-then-class-eq0 : goal.returns-then-class-eq0
 returns-then-class-eq0 g c =
     let s = c.args.self.now in
-    let e = sym c.class-for-class.ensures ∙ c.if-class-eq0.true in
+    let e = sym c.class_for-class.ensures ∙ c.if-class-eq0.true in
     let r = emptied s c.settle.new.self c.args.l c.requires.ready c.settle.ensures.sound c.settle.ensures.empty c.settle.ensures.holds in
     record { ready = r.0; holds = r.1 ∙ sym (written_none (bank s) c.args.l c.args.xs.now e) }
 
@@ -69,7 +69,7 @@ returns-then-class-self g c =
     let ok = c.requires.ready.sound in
     let k = class_of_is s ok c.args.l in
     let f = (ok.filled.1 c.args.l).1 in
-    let e = sym c.class-for-class.ensures ∙ (c.if-class-self.true ∙ sym k) in
+    let e = sym c.class_for-class.ensures ∙ (c.if-class-self.true ∙ sym k) in
     record {
       ready = c.overwrite.ensures.ready;
       holds = c.overwrite.ensures.holds ∙ sym (written_own (bank s) c.args.l c.args.xs.now (free_many s ok) (omega arith) e);
@@ -79,7 +79,7 @@ pub returns-else-class-self : goal.returns-else-class-self
 returns-else-class-self g c =
     let s = c.args.self.now in
     let k = class_of_is s c.requires.ready.sound c.args.l in
-    let e = c.class-for-class.ensures in
+    let e = c.class_for-class.ensures in
     record {
       ready = c.replace.ensures.ready;
       holds = c.replace.ensures.holds

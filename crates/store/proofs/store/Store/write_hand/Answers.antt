@@ -7,12 +7,12 @@ use Rattle.store.proofs.Items.{write_hand, lists_kept_one}
 use Rattle.store.proofs.Stores.{same_held, sounds, hand_in, hand_long}
 use Rattle.store.proofs.store.Store.write_hand.Goals as goal
 
-pub overflow-mul-at : goal.overflow-mul-at
-overflow-mul-at g c = let b = hand_in c.args.self.now c.requires.sound in search rules
+pub overflow_mul-at : goal.overflow_mul-at
+overflow_mul-at g c = let b = hand_in c.args.self.now c.requires.sound in search rules
 
-pub overflow-add-at : goal.overflow-add-at
+pub overflow_add-at : goal.overflow_add-at
 unfolding held owned
-overflow-add-at g c =
+overflow_add-at g c =
     let b = hand_in c.args.self.now c.requires.sound in
     let n = hand_long c.args.self.now c.requires.sound in
     search rules
