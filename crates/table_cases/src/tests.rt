@@ -6,6 +6,7 @@ use ir::fault::Layer;
 use rows::cell::RowCell;
 use rows::store::Rows;
 use std::process::Abort;
+use std::test::Fail;
 use table::calls::TableCall;
 use table::drive::answer_alike;
 use table::fault::TableFault;
