@@ -1,6 +1,5 @@
 -- The words that a line may begin with, and what each leaves to read.
 use Rattle.std.proofs.Common.{◌≡◌, ℕ, ◌<◌, Bool, true, false, cond, List, [], ◌∷◌, None, codes, decimal, refl, ◌∙◌, arith}
-use Rattle.std.specs.Str.{bytes_eq}
 use Rattle.ir.specs.declared.value_data.ValueData.TheVariants.{Inst, Param, Alias, Union}
 use Rattle.ir.specs.declared.block_arg.BlockArg.TheVariants.{Value, TryCallRet, TryCallExn}
 use Rattle.command_log.specs.declared.command.Command.TheVariants.{Pack, Unpack, Encode, Decode}

@@ -1,5 +1,5 @@
 -- What the closing line of a record counts.
-use Rattle.std.specs.Prelude.{ℕ, ◌-◌, List, [], ◌∷◌, length, codes, decimal, count_by}
+use Rattle.std.specs.Prelude.{◌-◌, List, [], ◌∷◌, length, codes, decimal, count_by}
 use Rattle.command_log.specs.declared.counts.Counts.{Counts}
 use Rattle.command_log.specs.declared.outcome.Outcome.{Outcome}
 use Rattle.command_log.specs.Running.{accepted}

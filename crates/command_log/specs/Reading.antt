@@ -11,7 +11,7 @@ use Rattle.command_log.specs.declared.command.Command.{Command}
 use Rattle.command_log.specs.declared.command.Command.TheVariants.{Pack, Unpack, Encode, Decode}
 use Rattle.command_log.specs.declared.expected.Expected.{Expected}
 use Rattle.command_log.specs.declared.expected.Expected.TheVariants as ex
-use Rattle.command_log.specs.Writing.{Words, of_data, of_packed, of_arg, of_command}
+use Rattle.command_log.specs.Writing.{Words}
 
 -- r is what the text w writes, if it writes anything
 abbrev pub Reads : {A W : Type 0} → (A → W) → (A → Type 0) → W → Option A → Type 0

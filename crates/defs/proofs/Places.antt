@@ -1,5 +1,5 @@
 -- Where an attached value stands.
-use Rattle.std.proofs.Common.{◌≡◌, ℕ, ◌<◌, ◌≤◌, Bool, true, false, not, ◌&&◌, eqb, ltb, List, length, get_or, sym, refl, ap, ◌∙◌, subst, inl, inr, arith}
+use Rattle.std.proofs.Common.{◌≡◌, ℕ, ◌<◌, true, false, not, eqb, ltb, length, get_or, sym, ap, subst, inl, inr, arith}
 use Rattle.std.proofs.lemmas.List.{get_or_past}
 use Rattle.std.proofs.lemmas.Bool.{and_parts, ltb-true, not-false, cases_lt}
 use Rattle.ir.specs.declared.entities.Value.{Value}
@@ -7,7 +7,7 @@ use Rattle.ir.specs.declared.value_data.ValueData.{ValueData}
 use Rattle.ir.specs.declared.value_data.ValueData.TheVariants.{Inst, Param, Alias, Union}
 use Rattle.store.specs.Bank.{Bank, Owned, items_of, nothing}
 use Rattle.values.specs.Leads.{at}
-use Rattle.model.specs.State.{Graph, holds, attached, attached_by, no_value, param_list, result_list, params, results}
+use Rattle.model.specs.State.{Graph, holds, attached, attached_by, no_value, param_list, result_list}
 use Rattle.model.specs.Edits.{block_of, inst_of, is_param, is_result, number}
 
 -- a list that holds something has that place, and is a list

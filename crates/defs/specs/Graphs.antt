@@ -1,5 +1,5 @@
 -- The graph that the code's data is, and what every call on it keeps.
-use Rattle.std.specs.Prelude.{◌≡◌, ℕ, ◌+◌, ◌*◌, ◌^◌, ◌≤◌, length, Some, None, Ok, Err, Option, Result}
+use Rattle.std.specs.Prelude.{◌≡◌, ◌+◌, ◌*◌, ◌≤◌, length, Some, None, Ok, Err, Result}
 use Rattle.store.specs.Bank.{Ready, bank}
 use Rattle.values.specs.Tables.{Canonicals, SoundValues, value_data}
 use Rattle.model.specs.declared.fault.GraphFault.{GraphFault}

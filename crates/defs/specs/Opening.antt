@@ -1,5 +1,5 @@
 -- A new graph by the lengths of the memory that it is lent.
-use Rattle.std.specs.Prelude.{ℕ, ◌-◌, ◌/◌, ◌^◌, min, [], length, replicate}
+use Rattle.std.specs.Prelude.{ℕ, ◌-◌, ◌/◌, min, [], length, replicate}
 use Rattle.store.specs.Bank.{Bank, fresh, usable}
 use Rattle.model.specs.declared.labels.Label.TheVariants.{Absent}
 use Rattle.model.specs.State.{Graph}

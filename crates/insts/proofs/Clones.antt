@@ -1,6 +1,6 @@
 -- Results of a new instruction, made one after another in the places of a copy of another's.
-use Rattle.std.proofs.Common.{◌≡◌, ℕ, zero, suc, ◌+◌, ◌-◌, ◌*◌, ◌<◌, ◌≤◌, ltb, List, [], ◌∷◌, ◌++◌, map, length, get_or, take, drop, set, None, sym, refl, ap, ◌∙◌, subst, append_assoc, append-nil, arith}
-use Rattle.std.proofs.lemmas.List.{drop_all, drop_more, get_or_at, get_or-map, get_or_past, get_or-set_same, get_or-take, length-append, length-drop, length-map, length_push, length-set, length-take, length-take-le, set_at, set-set, take_all, take_at, take_more}
+use Rattle.std.proofs.Common.{◌≡◌, ℕ, suc, ◌+◌, ◌<◌, ◌≤◌, List, [], ◌∷◌, ◌++◌, map, length, get_or, take, drop, set, None, sym, refl, ap, ◌∙◌, append_assoc, append-nil, arith}
+use Rattle.std.proofs.lemmas.List.{drop_all, drop_more, get_or_at, get_or-map, get_or_past, get_or-set_same, get_or-take, length-append, length-drop, length-map, length_push, length-take, length-take-le, set_at, set-set, take_all, take_at, take_more}
 use Rattle.std.proofs.lemmas.Bool.{le-ltb}
 use Rattle.ir.specs.declared.entities.Value.{Value}
 use Rattle.ir.specs.declared.entities.Inst.{Inst as InstId}
@@ -12,7 +12,7 @@ use Rattle.store.specs.Units.{smallest}
 use Rattle.store.proofs.Acts.{held_same}
 use Rattle.store.specs.Bank.{Bank, Owned, changed, class_of, cleared, holding, items_of, nothing, obtained, written}
 use Rattle.values.specs.Leads.{at}
-use Rattle.model.specs.State.{Graph, no_value, result_list, results, value}
+use Rattle.model.specs.State.{Graph, no_value, result_list, value}
 use Rattle.model.specs.Edits.{defined, result_types, seated, seats, values_full, with_defs, with_results, with_words}
 use Rattle.model.proofs.Banks.{cleared_only, holding_only, obtained_lists, written_only}
 use Rattle.defs.specs.declared.state.Defs.{Defs}

@@ -1,9 +1,8 @@
 -- A clone's lists, written one after another.
-use Rattle.std.proofs.Common.{◌≡◌, ℕ, ◌+◌, ◌*◌, ◌<◌, ◌≤◌, Bool, true, false, cond, ltb, ◌≢◌, List, [], ◌∷◌, map, length, None, Ok, Err, Result, sym, refl, ap, ◌∙◌, subst, arith}
+use Rattle.std.proofs.Common.{◌≡◌, ℕ, ◌+◌, ◌*◌, ◌<◌, ◌≤◌, Bool, true, false, cond, ltb, List, [], ◌∷◌, map, length, None, Ok, Err, Result, sym, refl, ap, ◌∙◌, arith}
 use Rattle.std.proofs.lemmas.Bool.{leb-false, ltb-false}
 use Rattle.ir.specs.declared.entities.Value.{Value}
 use Rattle.ir.specs.declared.entities.Inst.{Inst as InstId}
-use Rattle.ir.specs.declared.entities.Type.{«Type» as Ty}
 use Rattle.ir.specs.Packing.{type}
 use Rattle.store.specs.Bank.{Bank, copied, fault_copy, fault_for, fault_list, fault_write, items_of}
 use Rattle.store.proofs.Models.{before_none, list_known}

@@ -1,5 +1,5 @@
 -- What the rows of a new instruction say once none of them holds.
-use Rattle.std.proofs.Common.{◌≡◌, ℕ, ◌+◌, ◌<◌, ◌≤◌, min, Bool, true, false, cond, not, eqb, ltb, leb, List, [], ◌∷◌, map, length, Some, None, Ok, Err, Option, Result, sym, refl, ap, ◌∙◌, subst, arith}
+use Rattle.std.proofs.Common.{◌≡◌, ℕ, ◌+◌, ◌<◌, ◌≤◌, min, Bool, true, false, cond, ltb, leb, List, map, length, Some, None, Ok, Err, Option, Result, sym, refl, ap, ◌∙◌, arith}
 use Rattle.std.proofs.lemmas.Bool.{eqb-true, leb-false, ltb-false, not-false}
 use Rattle.ir.specs.declared.entities.Value.{Value}
 use Rattle.ir.specs.declared.entities.Inst.{Inst as InstId}
@@ -12,7 +12,7 @@ use Rattle.table.specs.declared.fault.TableFault.{TableFault}
 use Rattle.table.specs.Table.{Table, add_answer, add_table, count, total}
 use Rattle.model.specs.declared.fault.GraphFault.{GraphFault}
 use Rattle.model.specs.declared.fault.GraphFault.TheVariants.{Count, Full, Pool}
-use Rattle.model.specs.Refusals.{Outcome, Row, by_pool, by_table, done, first, outcome, refused, unless}
+use Rattle.model.specs.Refusals.{Row, by_pool, by_table, done, first, outcome, unless}
 use Rattle.model.specs.State.{Graph, State, inst}
 use Rattle.model.specs.Edits.{aimed, counts_differ, insts_full, make_inst, make_inst_rows, with_inst, with_words}
 use Rattle.model.proofs.Rows.{passes, when_none}

@@ -1,5 +1,5 @@
 -- A block argument in one word: tag × 2^30 + payload.
-use Rattle.std.specs.Prelude.{ℕ, zero, suc, ◌+◌, ◌*◌, ◌/◌, ◌%◌, ◌^◌, cond, Some, None, Ok, Err, Option, Result, nat_lt}
+use Rattle.std.specs.Prelude.{ℕ, zero, suc, ◌+◌, ◌*◌, ◌/◌, ◌%◌, cond, Some, None, Ok, Err, Option, Result, nat_lt}
 use Rattle.ir.specs.declared.entities.Value.{Value as Val}
 use Rattle.ir.specs.declared.block_arg.BlockArg.{BlockArg}
 use Rattle.ir.specs.declared.block_arg.BlockArg.TheVariants.{Value, TryCallRet, TryCallExn}

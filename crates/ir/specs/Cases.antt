@@ -1,6 +1,5 @@
 -- Worked values of the packing.
-use Rattle.std.specs.Prelude.{◌≡◌, ℕ, Ok, Err}
-use Rattle.ir.specs.declared.entities.Value.{Value}
+use Rattle.std.specs.Prelude.{◌≡◌, Ok, Err}
 use Rattle.ir.specs.declared.value_data.ValueData.TheVariants.{Inst, Alias, Union}
 use Rattle.ir.specs.declared.block_arg.BlockArg.TheVariants.{TryCallExn}
 use Rattle.ir.specs.declared.fault.PackFault.TheVariants.{Wide}

@@ -1,9 +1,9 @@
 -- What each operation of a pool does to its lists: one gets other items, and every other stays.
-use Rattle.std.proofs.Common.{◌≡◌, ℕ, zero, suc, ◌+◌, ◌-◌, ◌^◌, ◌<◌, ◌≤◌, Bool, true, false, cond, ltb, ◌≢◌, List, [], ◌∷◌, ◌++◌, length, get_or, take, drop, set, replicate, sym, refl, ap, ◌∙◌, inl, inr}
+use Rattle.std.proofs.Common.{◌≡◌, ℕ, zero, suc, ◌<◌, Bool, true, false, cond, ltb, ◌≢◌, List, [], ◌∷◌, ◌++◌, length, get_or, take, drop, set, sym, refl, ap, ◌∙◌}
 use Rattle.std.specs.List.{remove}
 use Rattle.std.proofs.lemmas.List.{length-set, get_or-set_same, get_or-set_other}
 use Rattle.store.specs.Units.{smallest}
-use Rattle.store.specs.Bank.{Bank, Owned, nothing, items_of, class_of, fresh, taken, obtained, spared, cleared, holding, written, copied, roomy, grown, pushed, changed, shortened, removed_at, swapped_out, swap_removed_at}
+use Rattle.store.specs.Bank.{Bank, Owned, nothing, items_of, class_of, taken, obtained, cleared, holding, written, copied, roomy, grown, pushed, changed, shortened, removed_at, swapped_out, swap_removed_at}
 use Rattle.ir.specs.declared.entities.Value.{Value}
 use Rattle.model.specs.Edits.{readdressed}
 

@@ -1,39 +1,38 @@
 -- What flattening does to a graph that edits alone have made.
-use Rattle.std.proofs.Common.{◌≡◌, ℕ, zero, suc, ◌+◌, ◌*◌, ◌^◌, ◌<◌, ◌≤◌, Bool, true, false, cond, not, eqb, leb, ◌≢◌, ◌⊎◌, List, [], ◌∷◌, ◌++◌, map, length, get_or, take, drop, Some, None, Option, sym, refl, ap, ◌∙◌, subst, inl, inr, arith}
+use Rattle.std.proofs.Common.{◌≡◌, ℕ, ◌+◌, ◌<◌, Bool, true, false, cond, not, ◌⊎◌, List, [], ◌∷◌, map, length, get_or, take, drop, Some, None, sym, refl, ap, ◌∙◌, subst, inl, inr, arith}
 use lib.ListN
 use lib.ListN.{length-map}
 use Rattle.std.proofs.lemmas.List.{get_or-map}
-use Rattle.std.proofs.lemmas.Bool.{lt-leb, eq-eqb, cases_Bool}
+use Rattle.std.proofs.lemmas.Bool.{lt-leb, eq-eqb}
 use Rattle.ir.specs.declared.entities.Value.{Value}
 use Rattle.ir.specs.declared.entities.Inst.{Inst as InstId}
 use Rattle.ir.specs.declared.entities.Block.{Block}
 use Rattle.ir.specs.declared.entities.Type.{«Type» as Ty}
 use Rattle.ir.specs.declared.value_data.ValueData.{ValueData}
-use Rattle.ir.specs.declared.value_data.ValueData.TheVariants.{Inst, Param, Alias, Union}
-use Rattle.ir.specs.Packing.{retired_mark, retired}
-use Rattle.store.specs.Bank.{Bank, Owned, nothing, items_of}
-use Rattle.table.specs.Table.{Table, Row as TableRow, no_row, count, row, operands}
-use Rattle.values.specs.declared.kind.Kind.TheVariants.{Root, Link, Gone}
-use Rattle.values.specs.Leads.{at, kind, Exists, Retired, LiveAlias, NonAlias, Leads}
+use Rattle.ir.specs.declared.value_data.ValueData.TheVariants.{Union}
+use Rattle.ir.specs.Packing.{retired_mark}
+use Rattle.store.specs.Bank.{Owned, items_of}
+use Rattle.table.specs.Table.{Row as TableRow, no_row, count, operands}
+use Rattle.values.specs.declared.kind.Kind.TheVariants.{Root}
+use Rattle.values.specs.Leads.{at, kind, LiveAlias, Leads}
 use Rattle.values.proofs.Ways.{end, non_alias_exists}
 use Rattle.renaming.specs.Renames.{end_of}
 use Rattle.model.specs.declared.fault.GraphFault.{GraphFault}
-use Rattle.model.specs.declared.fault.GraphFault.TheVariants.{Unknown, Retired as RetiredFault, Count}
+use Rattle.model.specs.declared.fault.GraphFault.TheVariants.{Count}
 use Rattle.model.specs.declared.labels.Start.{Start}
 use Rattle.model.specs.declared.labels.Label.{Label}
 use Rattle.model.specs.declared.labels.Label.TheVariants as label
-use Rattle.model.specs.Refusals.{Row, first, Outcome, done, refused, unless, settle, when}
-use Rattle.model.specs.State.{Graph, State, Entry, starts, alias, value, inst, param_list, result_list, call_list, params, results, call, arguments, value_argument, as_entry, label_at, entry, no_value}
+use Rattle.model.specs.Refusals.{Row, first, Outcome, refused, unless, when}
+use Rattle.model.specs.State.{Graph, State, starts, alias, value, result_list, params, results, call, arguments, value_argument, as_entry, label_at, entry, no_value}
 use Rattle.model.specs.Edits.{renamed_argument, renamed_word, unknown_values, retired_values, counts_differ}
-use Rattle.model.specs.Flattening.{live, flat, row_renamed, table_renamed, all_calls_renamed, retargeted, relabelled, all_operands, alias_side, first_side, flatten_rows, graph_flattened, flattened}
+use Rattle.model.specs.Flattening.{live, flat, row_renamed, table_renamed, retargeted, all_operands, alias_side, first_side, flatten_rows, graph_flattened, flattened}
 use Rattle.model.specs.Runs.{Answer, plain, is_plain, on_state, does, resolve_all_aliases}
-use Rattle.model.specs.Laws.{AliasesLeadHome, ListsAreNamed, Usable, UsesAreAlive, AliasAsSide, Flattened, FlatteningLaw}
-use Rattle.model.proofs.Rows.{Passes, state_done}
-use Rattle.model.proofs.Invariant.{Sized, HomesExist, SpareLists, Good}
+use Rattle.model.specs.Laws.{Usable, AliasAsSide, Flattened, FlatteningLaw}
+use Rattle.model.proofs.Rows.{state_done}
+use Rattle.model.proofs.Invariant.{Good}
 use Rattle.model.proofs.UsesWords.{small_word}
-use Rattle.model.proofs.Defs.{usable_kind, root_usable}
-use Rattle.model.proofs.FlatLists.{call_renamed, all_count, all_others, all_renamed}
-use Rattle.model.proofs.FlatParts.{live_inv, live_of, not_live, root_not_live, flat_live, flat_other, usable_not_retired, led, relabelled_at, relabelled_length, starts_stay, starts_count, side_inv, side_of, side_found, side_absent, no_operand}
+use Rattle.model.proofs.FlatLists.{call_renamed, all_others, all_renamed}
+use Rattle.model.proofs.FlatParts.{live_inv, live_of, not_live, flat_live, flat_other, usable_not_retired, led, relabelled_at, starts_stay, side_inv, side_of, side_found, side_absent, no_operand}
 
 -- a call by its target and its arguments
 renamed_target : (f : Value → Value) (ws : List Value) → take 1 (call_renamed f ws) ≡ take 1 ws

@@ -1,30 +1,27 @@
 -- Flattening keeps what every edit keeps.
-use Rattle.std.proofs.Common.{◌≡◌, ℕ, ◌+◌, ◌*◌, ◌<◌, ◌≤◌, Bool, true, false, cond, ◌||◌, ◌≢◌, ◌⊎◌, List, [], ◌∷◌, map, length, get_or, Some, None, Option, sym, refl, ap, ◌∙◌, subst, inl, inr, arith}
-use lib.ListN.{length-map}
+use Rattle.std.proofs.Common.{◌≡◌, ℕ, ◌<◌, Bool, true, false, cond, ◌||◌, ◌≢◌, List, map, length, get_or, Some, None, Option, sym, refl, ap, ◌∙◌, subst, inl, inr, arith}
 use Rattle.std.proofs.lemmas.Bool.{cases_Bool, or_parts}
 use Rattle.ir.specs.declared.entities.Value.{Value}
 use Rattle.ir.specs.declared.entities.Inst.{Inst as InstId}
-use Rattle.ir.specs.declared.entities.Type.{«Type» as Ty}
 use Rattle.ir.specs.declared.value_data.ValueData.{ValueData}
 use Rattle.ir.specs.declared.value_data.ValueData.TheVariants.{Inst, Param, Union}
-use Rattle.ir.specs.Packing.{retired_mark}
 use Rattle.store.specs.Bank.{items_of}
 use Rattle.table.specs.Table.{count, operands}
 use Rattle.values.specs.declared.kind.Kind.{Kind}
 use Rattle.values.specs.declared.kind.Kind.TheVariants.{Root, Link, Gone}
-use Rattle.values.specs.Leads.{at, kind, Exists, LiveAlias, NonAlias}
+use Rattle.values.specs.Leads.{at, kind, Exists, NonAlias}
 use Rattle.values.proofs.Ways.{end, non_alias_exists}
 use Rattle.renaming.specs.Renames.{end_of}
 use Rattle.model.specs.declared.labels.Label.{Label}
 use Rattle.model.specs.declared.labels.Label.TheVariants as label
 use Rattle.model.specs.Refusals.{done}
-use Rattle.model.specs.State.{Graph, State, starts, alias, arguments, results, params, call_list, value_argument, as_entry, label_at, entry, no_value}
+use Rattle.model.specs.State.{State, alias, arguments, results, params, value_argument, as_entry, label_at, entry, no_value}
 use Rattle.model.specs.Edits.{renamed_argument, renamed_word}
-use Rattle.model.specs.Flattening.{live, flat, is_link, row_renamed, retargeted, alias_side, first_side, flatten_rows, graph_flattened, flattened}
+use Rattle.model.specs.Flattening.{live, flat, is_link, retargeted, alias_side, first_side, flatten_rows, flattened}
 use Rattle.model.specs.Runs.{Answer, is_plain, does, resolve_all_aliases}
-use Rattle.model.specs.Laws.{Usable, Flattened}
+use Rattle.model.specs.Laws.{Usable}
 use Rattle.model.proofs.Rows.{state_done}
-use Rattle.model.proofs.Invariant.{Sized, HomesExist, SpareLists, Good}
+use Rattle.model.proofs.Invariant.{Good}
 use Rattle.model.proofs.UsesWords.{small_word}
 use Rattle.model.proofs.Defs.{usable_kind, root_usable}
 use Rattle.model.proofs.FlatLists.{all_count, all_others}

@@ -1,12 +1,12 @@
 -- Renaming the calls of all instructions changes the call lists alone.
-use Rattle.std.proofs.Common.{◌≡◌, ℕ, zero, suc, ◌+◌, ◌*◌, ◌<◌, ◌≤◌, ◌≢◌, ◌⊎◌, List, [], ◌∷◌, ◌++◌, map, length, get_or, take, drop, sym, refl, ap, ◌∙◌, inl, inr, not-suc-le-zero, arith}
-use Rattle.std.proofs.lemmas.Bool.{cases_eq, cases_lt}
+use Rattle.std.proofs.Common.{◌≡◌, ℕ, zero, suc, ◌+◌, ◌*◌, ◌<◌, ◌≤◌, ◌≢◌, List, ◌++◌, map, length, get_or, take, drop, refl, ap, ◌∙◌, inl, inr, not-suc-le-zero, arith}
+use Rattle.std.proofs.lemmas.Bool.{cases_eq}
 use Rattle.ir.specs.declared.entities.Value.{Value}
 use Rattle.store.specs.Bank.{Bank, nothing, items_of}
 use Rattle.model.specs.State.{Graph, inst, call_list}
 use Rattle.model.specs.Edits.{readdressed, renamed_word, calls_renamed}
 use Rattle.model.specs.Flattening.{all_calls_renamed}
-use Rattle.model.proofs.Banks.{OnlyList, readdressed_only, items_other}
+use Rattle.model.proofs.Banks.{readdressed_only, items_other}
 
 -- a call with its arguments renamed
 abbrev pub call_renamed : (Value → Value) → List Value → List Value

@@ -1,5 +1,5 @@
 -- Liveness, usable values and what they lead to, and the parts of a flattened graph.
-use Rattle.std.proofs.Common.{◌≡◌, ℕ, zero, suc, ◌+◌, ◌<◌, ◌≤◌, Bool, true, false, cond, ◌&&◌, ◌||◌, ◌≢◌, ◌⊎◌, List, [], ◌∷◌, ◌++◌, map, length, get_or, set, Some, None, Option, sym, refl, ap, ◌∙◌, subst, inl, inr, not-suc-le-zero, arith}
+use Rattle.std.proofs.Common.{◌≡◌, ℕ, zero, suc, ◌+◌, ◌<◌, Bool, true, false, cond, ◌≢◌, ◌⊎◌, List, [], ◌∷◌, ◌++◌, length, get_or, Some, None, sym, refl, ap, ◌∙◌, subst, inl, inr, not-suc-le-zero, arith}
 use Rattle.std.proofs.lemmas.Bool.{or_cases, or_left, or_right, cases_Bool}
 use Rattle.ir.specs.declared.entities.Value.{Value}
 use Rattle.ir.specs.declared.entities.Type.{«Type» as Ty}
@@ -18,11 +18,11 @@ use Rattle.model.specs.declared.fault.GraphFault.TheVariants.{Side}
 use Rattle.model.specs.declared.labels.Start.{Start}
 use Rattle.model.specs.declared.labels.Label.{Label}
 use Rattle.model.specs.declared.labels.Label.TheVariants as label
-use Rattle.model.specs.Refusals.{Row, first_of}
-use Rattle.model.specs.State.{Graph, State, value, no_value}
+use Rattle.model.specs.Refusals.{first_of}
+use Rattle.model.specs.State.{State, value, no_value}
 use Rattle.model.specs.Flattening.{is_link, live, flat, all_operands, retargeted, relabelled, starts_dropped, alias_side, first_side}
 use Rattle.model.specs.Laws.{Usable, AliasesLeadHome}
-use Rattle.model.proofs.Banks.{OnlyList, cleared_only}
+use Rattle.model.proofs.Banks.{cleared_only}
 use Rattle.model.proofs.Defs.{usable_kind, usable_leads}
 
 -- live aliases

@@ -1,6 +1,6 @@
 -- Tables that differ only in the originals of live aliases: they take the same aliasings, and two neighbouring aliasings
 -- in either order give such tables.
-use Rattle.std.proofs.Common.{◌≡◌, ℕ, ◌≢◌, ◌⊎◌, List, length, set, Some, sym, refl, ap, ◌∙◌, subst₂, inl, inr, length-set}
+use Rattle.std.proofs.Common.{◌≡◌, ◌≢◌, ◌⊎◌, List, length, set, Some, sym, refl, ap, ◌∙◌, subst₂, inl, inr, length-set}
 use Rattle.ir.specs.declared.entities.Value.{Value}
 use Rattle.ir.specs.declared.entities.Type.{«Type» as Ty}
 use Rattle.ir.specs.declared.value_data.ValueData.{ValueData}

@@ -1,6 +1,6 @@
 -- One aliasing of a value that is no alias, as it acts on what each value leads to.
-use Rattle.std.proofs.Common.{◌≡◌, ℕ, zero, suc, Bool, true, false, cond, ◌≢◌, ◌⊎◌, List, [], ◌∷◌, get_or, set, Some, None, Option, sym, refl, ap, ◌∙◌, inl, inr, arith}
-use Rattle.std.proofs.lemmas.Bool.{cases_eq, eq-eqb, ne_eqb}
+use Rattle.std.proofs.Common.{◌≡◌, ℕ, zero, suc, Bool, true, false, cond, ◌≢◌, List, [], ◌∷◌, get_or, set, Some, None, Option, sym, refl, ap, ◌∙◌, inl, inr, arith}
+use Rattle.std.proofs.lemmas.Bool.{eq-eqb, ne_eqb}
 use Rattle.ir.specs.declared.entities.Value.{Value}
 use Rattle.ir.specs.declared.entities.Type.{«Type» as Ty}
 use Rattle.ir.specs.declared.value_data.ValueData.{ValueData}
@@ -10,7 +10,7 @@ use Rattle.values.specs.declared.kind.Kind.{Kind}
 use Rattle.values.specs.declared.kind.Kind.TheVariants.{Root, Link, Gone}
 use Rattle.values.specs.Leads.{kind, at, NonAlias, Leads, here, step, leads_to}
 use Rattle.values.proofs.Ways.{leads_some, some_leads, end, at_same, kind_other, non_alias_exists}
-use Rattle.model.specs.State.{Graph, value, attached_by}
+use Rattle.model.specs.State.{Graph, attached_by}
 use Rattle.model.specs.Edits.{aliased}
 use Rattle.model.specs.Laws.{Aliasing}
 use Rattle.model.proofs.Defs.{same_value, cases_value}

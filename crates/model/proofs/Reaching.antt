@@ -1,5 +1,5 @@
 -- Every state that edits alone reach from a new one is lawful.
-use Rattle.std.proofs.Common.{◌≡◌, ℕ, ◌+◌, ◌*◌, ◌<◌, ◌≤◌, ◌≢◌, ◌⊎◌, List, [], length, get_or, replicate, Result, sym, refl, ap, ◌∙◌, subst, inl, inr, not-suc-le-zero, arith}
+use Rattle.std.proofs.Common.{◌≡◌, ℕ, ◌<◌, ◌≢◌, ◌⊎◌, List, [], length, get_or, replicate, Result, sym, refl, ap, ◌∙◌, subst, inl, inr, not-suc-le-zero, arith}
 use Rattle.std.proofs.lemmas.List.{get_or_past, get_or-replicate, length-replicate}
 use Rattle.std.proofs.lemmas.Bool.{cases_lt}
 use Rattle.ir.specs.declared.entities.Value.{Value}
@@ -7,19 +7,18 @@ use Rattle.ir.specs.declared.value_data.ValueData.{ValueData}
 use Rattle.ir.specs.declared.value_data.ValueData.TheVariants.{Inst, Param, Union}
 use Rattle.ir.specs.Packing.{retired_mark}
 use Rattle.store.specs.Bank.{Bank, Owned, nothing, fresh}
-use Rattle.table.specs.Table.{count}
 use Rattle.values.specs.declared.kind.Kind.TheVariants.{Link, Gone}
 use Rattle.values.specs.Leads.{at, kind}
 use Rattle.model.specs.declared.fault.GraphFault.{GraphFault}
 use Rattle.model.specs.declared.labels.Label.TheVariants as label
 use Rattle.model.specs.Refusals.{done}
 use Rattle.model.specs.State.{State}
-use Rattle.model.specs.Runs.{Edit, Answer, is_plain, does, make_block, make_inst, make_inst_results, clear_results, replace_result, replace_block_param, remove_block_param, swap_remove_block_param, append_block_param, attach_block_param, detach_block_params, clone_inst, append_argument, remove, map_inst_values, overwrite_inst_values, change_to_alias, replace_with_aliases, union, set_label, resolve_all_aliases, Steps, accepted, declined, Runs, nothing as no-edit, next, New, Reached}
+use Rattle.model.specs.Runs.{Edit, Answer, is_plain, does, make_block, make_inst, make_inst_results, clear_results, replace_result, replace_block_param, remove_block_param, swap_remove_block_param, append_block_param, attach_block_param, detach_block_params, clone_inst, append_argument, remove, map_inst_values, overwrite_inst_values, change_to_alias, replace_with_aliases, union, set_label, resolve_all_aliases, Steps, accepted, declined, Runs, nothing as no-edit, next, New}
 use Rattle.model.specs.Flattening.{flatten_rows, flattened}
 use Rattle.model.specs.Laws.{Lawful, LawsOverRuns}
 use Rattle.model.proofs.Rows.{state_done}
-use Rattle.model.proofs.Invariant.{Sized, HomesExist, SpareLists, Good}
-use Rattle.model.proofs.DefsEdits.{DefsKept, defs_kept}
+use Rattle.model.proofs.Invariant.{Good}
+use Rattle.model.proofs.DefsEdits.{defs_kept}
 use Rattle.model.proofs.Seats.{SeatsKept}
 use Rattle.model.proofs.SeatsEach.{seats_each}
 use Rattle.model.proofs.Uses.{SpareLabels, UsesKept}

@@ -1,7 +1,7 @@
 -- What an accepted edit says: no row held, and the state after it is the one that the edit gives.
-use Rattle.std.proofs.Common.{◌≡◌, ℕ, zero, suc, ◌<◌, ◌≤◌, Bool, true, false, cond, List, [], ◌∷◌, length, get_or, Some, None, Option, sym, refl, ap, ◌∙◌, not-suc-le-zero, arith}
+use Rattle.std.proofs.Common.{◌≡◌, ℕ, zero, suc, ◌<◌, Bool, true, false, cond, List, [], ◌∷◌, length, get_or, Some, None, refl, not-suc-le-zero, arith}
 use Rattle.model.specs.declared.fault.GraphFault.{GraphFault}
-use Rattle.model.specs.Refusals.{Row, when, first_of, first, Outcome, done, refused, unless, settle}
+use Rattle.model.specs.Refusals.{Row, when, first_of, first, done, unless, settle}
 use Rattle.model.specs.State.{Graph, State}
 use Rattle.model.specs.Runs.{Answer, on_graph, on_state}
 

@@ -9,7 +9,7 @@ use Rattle.ir.specs.declared.entities.Type.{«Type» as Ty}
 use Rattle.ir.specs.declared.value_data.ValueData.{ValueData}
 use Rattle.ir.specs.declared.value_data.ValueData.TheVariants.{Inst, Param, Alias, Union}
 use Rattle.ir.specs.Packing.{retired_mark}
-use Rattle.store.specs.Bank.{Bank, Owned, nothing, items_of}
+use Rattle.store.specs.Bank.{Bank, Owned, items_of}
 use Rattle.values.specs.Leads.{at, Exists}
 use Rattle.values.proofs.Ways.{at_same}
 use Rattle.model.specs.State.{Graph, State, value, block, inst, call_list, holds, attached, attached_by, no_value}

@@ -15,7 +15,7 @@ use Rattle.model.specs.declared.fault.GraphFault.TheVariants.{Unknown, Retired}
 use Rattle.model.specs.declared.labels.Start.{Start}
 use Rattle.model.specs.declared.labels.Label.{Label}
 use Rattle.model.specs.declared.labels.Label.TheVariants as label
-use Rattle.model.specs.State.{Graph, State, starts, alias, value, call_list, arguments, value_argument, as_entry, label_at, entry, no_value}
+use Rattle.model.specs.State.{Graph, State, alias, value, call_list, arguments, value_argument, as_entry, label_at, entry, no_value}
 use Rattle.model.specs.Edits.{unknown_values, retired_values}
 use Rattle.model.specs.Laws.{Usable}
 use Rattle.model.proofs.Rows.{first_of_none}

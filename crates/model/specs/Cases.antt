@@ -1,6 +1,5 @@
 -- The nine worked cases: seven of the packing, and two of edits.
-use Rattle.std.specs.Prelude.{◌≡◌, ℕ, List, [], ◌∷◌, replicate, Result}
-use Rattle.ir.specs.declared.entities.Opcode.{Opcode}
+use Rattle.std.specs.Prelude.{◌≡◌, List, [], ◌∷◌, replicate, Result}
 use Rattle.ir.specs.declared.entities.Type.{«Type» as Ty}
 use Rattle.ir.specs.declared.value_data.ValueData.TheVariants.{Param}
 use Rattle.ir.specs.declared.block_arg.BlockArg.TheVariants.{Value as ValueArg, TryCallRet}

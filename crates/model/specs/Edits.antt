@@ -1,5 +1,5 @@
 -- What each edit does, and when it is refused: its rows stand in the order of their numbers.
-use Rattle.std.specs.Prelude.{ℕ, zero, suc, ◌+◌, ◌-◌, ◌*◌, min, Bool, true, false, cond, not, ◌&&◌, ◌||◌, leb, List, [], ◌∷◌, ◌++◌, map, length, take, drop, set, Some, None, Ok, Err, Option, Result, ◌==◌, nat_le, nat_lt, slice_index_or, slice_set}
+use Rattle.std.specs.Prelude.{ℕ, ◌+◌, ◌-◌, min, Bool, true, false, cond, not, ◌&&◌, ◌||◌, leb, List, [], ◌∷◌, ◌++◌, map, length, take, drop, Some, None, Ok, Err, Option, Result, ◌==◌, nat_le, nat_lt, slice_index_or, slice_set}
 use Rattle.ir.specs.declared.entities.Value.{Value}
 use Rattle.ir.specs.declared.entities.Inst.{Inst as InstId}
 use Rattle.ir.specs.declared.entities.Block.{Block}
@@ -16,13 +16,12 @@ use Rattle.store.specs.Bank.{Bank, items_of, class_of, holding, pushed, changed,
 use Rattle.table.specs.Table.{Table, count, row, operands, add_answer, add_table, copy_answer, copy_table}
 use Rattle.values.specs.Leads.{at}
 use Rattle.renaming.specs.Renames.{end_of}
-use Rattle.model.specs.declared.fault.GraphFault.{GraphFault}
 use Rattle.model.specs.declared.fault.GraphFault.TheVariants.{Unknown, Retired, Kind, Loose, Attached, Types, Loop, Count, Twice, Full, Long, Packing}
 use Rattle.model.specs.declared.labels.Start.{Start}
 use Rattle.model.specs.declared.labels.Label.{Label}
 use Rattle.model.specs.declared.labels.Label.TheVariants as label
 use Rattle.model.specs.Refusals.{Row, when, first_of, by_pool, by_table, Outcome, settle}
-use Rattle.model.specs.State.{Graph, State, Entry, starts, alias, value, inst, block, param_list, result_list, call_list, params, results, call, has_call, arguments, value_argument, values_in, call_values, inst_values, holds, attached, no_value}
+use Rattle.model.specs.State.{Graph, State, Entry, starts, alias, value, inst, block, param_list, result_list, call_list, params, results, call, has_call, arguments, value_argument, values_in, inst_values, attached, no_value}
 
 -- a graph with other parts
 abbrev pub with_defs : Graph → List ValueData → Graph

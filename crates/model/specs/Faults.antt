@@ -1,14 +1,13 @@
 -- Faults that such a graph invites, and that the definitions tell from what is right.
-use Rattle.std.specs.Prelude.{◌≡◌, ℕ, ◌<◌, false, ◌≢◌, List, [], ◌∷◌, length, take, Some, None, slice_index_or}
+use Rattle.std.specs.Prelude.{◌≡◌, ℕ, ◌<◌, false, ◌≢◌, List, [], ◌∷◌, length, take, None, slice_index_or}
 use Rattle.ir.specs.declared.entities.Value.{Value}
 use Rattle.ir.specs.declared.entities.Inst.{Inst as InstId}
-use Rattle.ir.specs.declared.entities.Type.{«Type» as Ty}
 use Rattle.table.specs.Table.{count, operands}
 use Rattle.values.specs.Leads.{LiveAlias}
 use Rattle.model.specs.declared.fault.GraphFault.TheVariants.{Loose, Types}
 use Rattle.model.specs.Refusals.{done, refused}
 use Rattle.model.specs.State.{State, value, inst, block, call, arguments, value_argument, attached, no_value}
-use Rattle.model.specs.Runs.{Edit, Answer, a_block, does, make_inst, make_inst_results, make_block, remove_block_param, replace_block_param, replace_with_aliases}
+use Rattle.model.specs.Runs.{Edit, a_block, does, make_inst, make_inst_results, make_block, remove_block_param, replace_block_param, replace_with_aliases}
 use Rattle.model.specs.Laws.{Flattened}
 use Rattle.model.specs.Cases.{Ends, three_params, five}
 

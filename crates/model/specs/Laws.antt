@@ -14,7 +14,7 @@ use Rattle.values.specs.Leads.{at, Exists, Retired, LiveAlias, NonAlias, Leads}
 use Rattle.model.specs.declared.fault.GraphFault.{GraphFault}
 use Rattle.model.specs.declared.labels.Start.{Start}
 use Rattle.model.specs.Refusals.{done, refused}
-use Rattle.model.specs.State.{Graph, State, Entry, starts, alias, params, results, call, arguments, value_argument, entry, no_value}
+use Rattle.model.specs.State.{State, starts, alias, params, results, call, arguments, value_argument, entry, no_value}
 use Rattle.model.specs.Runs.{does, plain, change_to_alias, resolve_all_aliases, Reached, Equal}
 
 -- Aliases lead home: each live alias leads, through fewer aliases than there are values, to a non-alias of its type.

@@ -1,5 +1,5 @@
 -- What a refusal of the graph says: its number, the layer that gives it, and what was found.
-use Rattle.std.specs.Prelude.{ℕ, Bool, true, false, cond, List, [], ◌∷◌, Some, None, Ok, Err, Option, Result}
+use Rattle.std.specs.Prelude.{ℕ, Bool, cond, List, [], ◌∷◌, Some, None, Ok, Err, Option, Result}
 use Rattle.ir.specs.declared.fault.Layer.TheVariants as layer
 use Rattle.ir.specs.Refusals.{Refusal, refusal as packing-refusal}
 use Rattle.store.specs.declared.parts.PoolFault.{PoolFault}

@@ -7,7 +7,7 @@ use Rattle.ir.specs.declared.entities.Type.{«Type» as Ty}
 use Rattle.ir.specs.declared.entities.Opcode.{Opcode}
 use Rattle.ir.specs.declared.block_arg.BlockArg.{BlockArg}
 use Rattle.store.specs.Bank.{fresh}
-use Rattle.table.specs.Table.{Bounded, count, row}
+use Rattle.table.specs.Table.{count, row}
 use Rattle.values.specs.Leads.{at}
 use Rattle.model.specs.declared.fault.GraphFault.{GraphFault}
 use Rattle.model.specs.declared.labels.Label.TheVariants as label

@@ -1,14 +1,13 @@
 -- What a judgement that tells a place says.
-use Rattle.std.proofs.Common.{◌≡◌, ℕ, Some, None, Ok, Err, sym, refl, ap, ◌∙◌, subst, arith}
+use Rattle.std.proofs.Common.{◌≡◌, ℕ, Some, None, Ok, sym, refl, ap, subst, arith}
 use Rattle.ir.specs.declared.entities.Value.{Value}
 use Rattle.ir.specs.declared.entities.Block.{Block}
 use Rattle.ir.specs.declared.entities.Type.{«Type» as Ty}
 use Rattle.ir.specs.declared.value_data.ValueData.{ValueData}
-use Rattle.store.specs.Bank.{Bank}
 use Rattle.values.specs.Leads.{at}
 use Rattle.model.specs.declared.fault.GraphFault.TheVariants.{Kind, Loose}
 use Rattle.model.specs.Refusals.{Row, first}
-use Rattle.model.specs.State.{Graph, param_list}
+use Rattle.model.specs.State.{Graph}
 use Rattle.model.specs.Edits.{block_of, is_param, number, remove_rows, replace_rows}
 use Rattle.model.proofs.Rows.{passes, when_none}
 use Rattle.defs.proofs.Places.{Within, attached_param}

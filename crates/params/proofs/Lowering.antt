@@ -1,8 +1,8 @@
 -- Lowering the numbers of a list's values one after another.
-use Rattle.std.proofs.Common.{◌≡◌, ℕ, ◌+◌, ◌-◌, ◌<◌, ◌≤◌, List, [], ◌∷◌, length, get_or, drop, set, sym, refl, ap, ◌∙◌, subst}
+use Rattle.std.proofs.Common.{◌≡◌, ℕ, ◌+◌, ◌-◌, ◌<◌, ◌≤◌, List, ◌∷◌, length, get_or, drop, set, sym, ap, ◌∙◌}
 use Rattle.std.proofs.lemmas.List.{drop_more, drop_all}
 use Rattle.ir.specs.declared.entities.Value.{Value}
-use Rattle.store.specs.Bank.{Bank, items_of}
+use Rattle.store.specs.Bank.{items_of}
 use Rattle.values.specs.Leads.{at}
 use Rattle.model.specs.State.{Graph}
 use Rattle.model.specs.Edits.{lowered, number, numbered, with_defs}

@@ -2,7 +2,7 @@
 use Rattle.std.specs.Prelude.{◌≡◌, ℕ, List, [], ◌∷◌, length, Ok, Err, Option, Result}
 use Rattle.store.specs.declared.parts.PoolFault.{PoolFault}
 use Rattle.store.specs.Faults.{unless}
-use Rattle.store.specs.Bank.{Bank, items_of, pushed, changed, removed_at, swap_removed_at, cleared, written, copied, fault_list, fault_at, fault_push, fault_write, fault_copy}
+use Rattle.store.specs.Bank.{Bank, pushed, changed, removed_at, swap_removed_at, cleared, written, copied, fault_list, fault_at, fault_push, fault_write, fault_copy}
 
 pub data Call (T : Type 0) : Type 0 where
   push : ℕ → T → Call T

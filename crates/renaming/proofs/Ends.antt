@@ -1,5 +1,5 @@
 -- The alias resolver's function, by what values lead to.
-use Rattle.std.proofs.Common.{◌≡◌, Option, unwrap_or, ap}
+use Rattle.std.proofs.Common.{Option, unwrap_or, ap}
 use Rattle.ir.specs.declared.entities.Value.{Value}
 use Rattle.values.proofs.Ways.{leads_some, nowhere_none}
 use Rattle.renaming.specs.Renames.{EndReached, StaysPut}

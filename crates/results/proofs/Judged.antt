@@ -1,5 +1,5 @@
 -- What a judgement that tells a place says.
-use Rattle.std.proofs.Common.{◌≡◌, ℕ, Some, None, Ok, Err, sym, refl, ap, ◌∙◌, subst, arith}
+use Rattle.std.proofs.Common.{◌≡◌, ℕ, Some, None, Ok, sym, refl, ap, subst, arith}
 use Rattle.ir.specs.declared.entities.Value.{Value}
 use Rattle.ir.specs.declared.entities.Inst.{Inst}
 use Rattle.ir.specs.declared.entities.Type.{«Type» as Ty}

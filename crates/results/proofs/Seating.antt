@@ -1,5 +1,5 @@
 -- Results put in their places one after another.
-use Rattle.std.proofs.Common.{◌≡◌, ℕ, zero, suc, ◌+◌, ◌*◌, ◌<◌, ◌≤◌, Bool, true, false, cond, ltb, List, [], ◌∷◌, ◌++◌, length, get_or, drop, set, Some, None, Option, sym, refl, ap, ◌∙◌, subst, arith}
+use Rattle.std.proofs.Common.{◌≡◌, ℕ, ◌+◌, ◌*◌, ◌<◌, ◌≤◌, true, ltb, List, [], ◌∷◌, ◌++◌, length, get_or, drop, Some, None, Option, sym, refl, ap, ◌∙◌, subst, arith}
 use Rattle.std.proofs.lemmas.List.{append_assoc, append-nil, drop_all, drop-drop, drop_more, get_or-drop, get_or-set_same, length_push, length-set, set-set}
 use Rattle.std.proofs.lemmas.Bool.{le-ltb, lt-ltb}
 use Rattle.ir.specs.declared.entities.Value.{Value}
@@ -8,11 +8,10 @@ use Rattle.ir.specs.declared.entities.Type.{«Type» as Ty}
 use Rattle.ir.specs.declared.value_data.ValueData.{ValueData}
 use Rattle.ir.specs.declared.value_data.ValueData.TheVariants.{Inst}
 use Rattle.store.specs.Units.{units}
-use Rattle.store.specs.Bank.{Bank, Owned, class_of, fault_push, holding, items_of, nothing, pushed, roomy}
+use Rattle.store.specs.Bank.{Bank, Owned, class_of, fault_push, holding, nothing, pushed, roomy}
 use Rattle.store.proofs.Models.{push_roomy, same_bank}
 use Rattle.store.proofs.Acts.{held_same, pushed_within}
-use Rattle.model.specs.declared.fault.GraphFault.TheVariants.{Full}
-use Rattle.model.specs.State.{Graph, value}
+use Rattle.model.specs.State.{Graph}
 use Rattle.model.specs.Edits.{defined, seated, seats, with_defs, with_words}
 use Rattle.results.specs.Seats.{Known, Open, Seatable, news, seat_of, seated_in}
 

@@ -1,5 +1,5 @@
 -- What the reads of results answer.
-use Rattle.std.specs.Prelude.{Bool, ◌&&◌, List, [], ◌∷◌, length, Some, None, Ok, Err, Result, nat_lt, slice_index_or}
+use Rattle.std.specs.Prelude.{Bool, ◌&&◌, List, [], ◌∷◌, length, Some, None, Result, nat_lt, slice_index_or}
 use Rattle.ir.specs.declared.entities.Inst.{Inst}
 use Rattle.ir.specs.declared.entities.Value.{Value}
 use Rattle.model.specs.declared.fault.GraphFault.{GraphFault}

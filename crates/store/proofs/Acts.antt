@@ -1,11 +1,11 @@
 -- What calls made of steps do to what a store holds.
-use Rattle.std.proofs.Common.{◌≡◌, ℕ, zero, suc, ◌+◌, ◌-◌, ◌*◌, ◌^◌, ◌<◌, ◌≤◌, Bool, true, false, cond, ltb, leb, ◌≢◌, ◌⊎◌, List, [], ◌∷◌, ◌++◌, length, get_or, take, drop, set, Some, None, sym, refl, ap, ◌∙◌, subst, inl, inr, add-one, arith}
+use Rattle.std.proofs.Common.{◌≡◌, ℕ, zero, suc, ◌+◌, ◌-◌, ◌*◌, ◌<◌, ◌≤◌, true, false, ltb, ◌≢◌, List, [], ◌∷◌, ◌++◌, length, get_or, take, drop, set, sym, refl, ap, ◌∙◌, inl, inr, add-one, arith}
 use Rattle.std.proofs.lemmas.List.{length-set, length-append, get_or-set_same, get_or-set_other, set-set, set_comm, set-get_or, set_split, length-take, length-drop, drop_more, drop_all, nil_from_length, append_assoc}
-use Rattle.std.proofs.lemmas.Bool.{lt-ltb, le-ltb, le-leb, lt-leb, leb-true, leb-false, cases_lt, cases_eq, cases_Bool}
+use Rattle.std.proofs.lemmas.Bool.{lt-ltb, le-ltb, le-leb, lt-leb, cases_lt, cases_eq}
 use Rattle.store.specs.declared.store.Store.{Store}
 use Rattle.store.specs.Units.{units, smallest, first_class}
-use Rattle.store.specs.Bank.{Bank, Owned, Sound, Ready, bank, nothing, items_of, class_of, obtainable, obtained, taken, spared, cleared, holding, written, grown, pushed, changed, roomy, shortened, swapped_out, fault_push, fault_write, fault_copy}
-use Rattle.store.specs.Held.{Held, held, shown, exchange, filling, grasping, settled}
+use Rattle.store.specs.Bank.{Bank, Owned, Sound, Ready, bank, nothing, items_of, class_of, obtained, taken, spared, cleared, holding, written, grown, pushed, roomy, shortened, swapped_out}
+use Rattle.store.specs.Held.{held, shown, exchange, filling, grasping, settled}
 use Rattle.store.proofs.Views.{none_units}
 use Rattle.store.proofs.Stores.{hand_class, nothing_in_hand}
 use Rattle.store.proofs.Models.{same_bank, spared_other}

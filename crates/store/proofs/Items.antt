@@ -1,12 +1,12 @@
 -- What writes to cells do to the items of lists and of the hand.
-use Rattle.std.proofs.Common.{◌≡◌, ℕ, zero, suc, ◌+◌, ◌-◌, ◌*◌, ◌^◌, ◌<◌, ◌≤◌, min, ◌≢◌, ◌⊎◌, List, [], ◌∷◌, ◌++◌, map, length, get_or, take, drop, set, replicate, sym, refl, ap, ◌∙◌, subst, inl, inr, add-one, arith}
+use Rattle.std.proofs.Common.{◌≡◌, ℕ, zero, suc, ◌+◌, ◌-◌, ◌*◌, ◌<◌, ◌≤◌, List, [], ◌∷◌, ◌++◌, map, length, get_or, take, drop, set, sym, refl, ap, ◌∙◌, inl, inr, add-one, arith}
 use lib.Seq.{paste}
 use Rattle.std.specs.List.{remove}
-use Rattle.std.proofs.lemmas.List.{take-take, length-drop, length-take, drop-set-add, take_more_set, append_assoc, take_at, drop_at, set_split, drop-drop, drop-take, drop-append-le, length-take-le, length-set, get_or-take, get_or-drop, take-append-le}
-use Rattle.std.proofs.lemmas.List.Edits.{length-paste, take-paste, drop-paste}
+use Rattle.std.proofs.lemmas.List.{take-take, length-drop, length-take, drop-set-add, take_more_set, append_assoc, drop_at, set_split, drop-drop, drop-take, drop-append-le, length-take-le, get_or-take, get_or-drop, take-append-le}
+use Rattle.std.proofs.lemmas.List.Edits.{take-paste, drop-paste}
 use Rattle.store.specs.declared.parts.Head.{Head}
 use Rattle.store.specs.Units.{no_head, View, Apart, Filled, Fits, units}
-use Rattle.store.specs.Bank.{Owned, owned, nothing}
+use Rattle.store.specs.Bank.{owned, nothing}
 use Rattle.store.proofs.Views.{Outside, hand_outside, none_units}
 
 -- a head's items, by the list's number

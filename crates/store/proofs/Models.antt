@@ -1,13 +1,13 @@
 -- What the model's steps come to.
-use Rattle.std.proofs.Common.{◌≡◌, ℕ, zero, suc, ◌+◌, ◌-◌, ◌*◌, ◌^◌, ◌<◌, ◌≤◌, min, Bool, true, false, cond, ◌&&◌, ◌||◌, ltb, leb, ◌≢◌, ◌⊎◌, List, [], ◌∷◌, ◌++◌, map, length, get_or, take, drop, set, Some, None, Ok, Err, Option, sym, refl, ap, ◌∙◌, subst, inl, inr, add-one, arith}
+use Rattle.std.proofs.Common.{◌≡◌, ℕ, zero, suc, ◌+◌, ◌-◌, ◌*◌, ◌^◌, ◌<◌, ◌≤◌, min, Bool, true, false, cond, ◌&&◌, ◌||◌, ltb, leb, ◌≢◌, List, [], ◌∷◌, length, get_or, set, Some, None, Ok, Err, Option, sym, refl, ap, ◌∙◌, subst, inl, inr, add-one, arith}
 use Rattle.std.proofs.lemmas.Bool.Decides.{nat_tests}
 use Rattle.std.proofs.lemmas.Bool.{lt-ltb, le-ltb, le-leb, lt-leb, cond-true, cond-false, cases_lt, ltb-true}
 use Rattle.store.specs.Units.{units, smallest, first_class}
 use Rattle.store.specs.declared.parts.PoolFault.{PoolFault}
 use Rattle.store.specs.declared.parts.PoolFault.TheVariants.{Unknown, NoBlock}
 use Rattle.store.specs.Faults.{before, judged}
-use Rattle.store.specs.Bank.{Bank, Owned, nothing, items_of, class_of, takable, taken, obtainable, obtained, spared, cleared, holding, written, grown, pushed, roomy, shortened, removed_at, swapped_out, fault_list, fault_block, fault_for, fault_push, fault_write, fault_copy, fault_at, no_block}
-use Rattle.std.proofs.lemmas.List.{get_or-set_same, get_or-set_other, set-set, set_comm, set-get_or}
+use Rattle.store.specs.Bank.{Bank, items_of, class_of, taken, obtainable, obtained, spared, cleared, roomy, fault_list, fault_block, fault_for, fault_push, fault_write, fault_copy, fault_at, no_block}
+use Rattle.std.proofs.lemmas.List.{get_or-set_same, get_or-set_other}
 
 pub same_bank : {T : Type 0} {a b : Bank T} → a.lists ≡ b.lists → a.free ≡ b.free → a.left ≡ b.left → a ≡ b
 same_bank q r s = λ i. record { lists = q i; free = r i; left = s i }

@@ -1,10 +1,10 @@
 -- What each call leaves in its list, in the others, and how many lists there are.
-use Rattle.std.proofs.Common.{◌≡◌, ℕ, ◌+◌, ◌<◌, true, false, ◌≢◌, List, [], ◌∷◌, ◌++◌, length, get_or, set, None, sym, refl, ap, ◌∙◌, subst, inl, inr}
+use Rattle.std.proofs.Common.{◌≡◌, ℕ, ◌<◌, ◌≢◌, List, [], ◌∷◌, ◌++◌, length, get_or, set, None, sym, refl, ap, ◌∙◌, subst, inl, inr}
 use Rattle.std.specs.List.{remove}
 use Rattle.std.proofs.lemmas.List.{get_or-set_same, get_or-set_other, length-set}
 use Rattle.std.proofs.lemmas.Bool.{cases_Bool}
 use Rattle.store.specs.Units.{smallest}
-use Rattle.store.specs.Bank.{Bank, Owned, nothing, items_of, class_of, roomy, obtained, cleared, holding, written, grown, pushed, changed, shortened, removed_at, swapped_out, swap_removed_at, fault_block, fault_for, fault_write}
+use Rattle.store.specs.Bank.{Bank, nothing, items_of, class_of, roomy, obtained, cleared, holding, written, grown, pushed, changed, shortened, removed_at, swapped_out, swap_removed_at, fault_block, fault_for, fault_write}
 use Rattle.store.proofs.Models.{same_for, same_free, same_left, same_offer, spared_none, before_first, before_second, none_block, block_none, write_block}
 use Rattle.store.proofs.Acts.{obtained_lists, pushed_within, pushed_grown}
 

@@ -1,5 +1,5 @@
 -- What holds of a sound store.
-use Rattle.std.proofs.Common.{◌≡◌, ℕ, zero, suc, ◌+◌, ◌-◌, ◌*◌, ◌^◌, ◌<◌, ◌≤◌, List, [], ◌∷◌, map, length, get_or, replicate, sum_by, sym, refl, ap, ◌∙◌, subst, inl, inr, arith}
+use Rattle.std.proofs.Common.{◌≡◌, ℕ, zero, suc, ◌+◌, ◌-◌, ◌*◌, ◌^◌, ◌≤◌, List, [], ◌∷◌, map, length, get_or, replicate, sum_by, sym, refl, ap, ◌∙◌, subst, inl, inr, arith}
 use Rattle.std.proofs.lemmas.List.Sums.{sum_by-cons}
 use Rattle.std.proofs.lemmas.List.{length-map}
 use Rattle.std.proofs.lemmas.Bool.{cases_lt}
@@ -10,7 +10,7 @@ use Rattle.store.specs.Units.{no_head, no_record, units, View, Apart, Filled, Wh
 use Rattle.store.specs.Bank.{Sound, Ready, Settled, listed_units, view, owned, nothing, bank, class_of, items_of, stock}
 use Rattle.store.specs.Held.{Held, held, shown}
 use Rattle.store.proofs.Views.{listed_below, hand_below, units_pos, none_units, start, start_apart, start_filled, start_whole}
-use Rattle.store.proofs.Items.{list_at, owned_length, owned_item, empty_owned}
+use Rattle.store.proofs.Items.{list_at, owned_length, empty_owned}
 
 pub same_held : {T : Type 0} {a b : Held T} → a.hand ≡ b.hand → a.lists ≡ b.lists → a.free ≡ b.free → a.left ≡ b.left → a ≡ b
 same_held p q r s = λ i. record { hand = p i; lists = q i; free = r i; left = s i }

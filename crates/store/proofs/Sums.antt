@@ -1,11 +1,11 @@
 -- What blocks had, freed and held make up.
-use Rattle.std.proofs.Common.{◌≡◌, ℕ, zero, suc, ◌+◌, ◌-◌, ◌*◌, ◌^◌, ◌<◌, ◌≤◌, true, false, ◌≢◌, ◌⊎◌, List, [], ◌∷◌, ◌++◌, length, get_or, set, replicate, sum_by, sym, refl, ap, ◌∙◌, subst, inl, inr, add-mul, one-mul, arith}
-use Rattle.std.proofs.lemmas.List.{length-set, get_or-set_same, get_or-set_other, length-replicate, get_or-replicate, get_or_past}
+use Rattle.std.proofs.Common.{◌≡◌, ℕ, zero, suc, ◌+◌, ◌-◌, ◌*◌, ◌^◌, ◌<◌, ◌≤◌, true, List, length, get_or, set, sum_by, sym, refl, ap, ◌∙◌, subst, inl, inr, add-mul, one-mul, arith}
+use Rattle.std.proofs.lemmas.List.{length-set, get_or-set_same, get_or-set_other}
 use Rattle.std.proofs.lemmas.List.Sums.{sum_by-set}
-use Rattle.std.proofs.lemmas.Bool.{lt-ltb, le-ltb, cases_lt, cases_eq}
+use Rattle.std.proofs.lemmas.Bool.{cases_lt, cases_eq}
 use Rattle.store.specs.Units.{units, freed_units, smallest}
-use Rattle.store.specs.Bank.{Bank, Owned, nothing, items_of, class_of, fresh, obtainable, obtained, taken, spared, cleared, holding, listed_units}
-use Rattle.store.proofs.Views.{freed_at, none_units, units_at, units_pos, rep_at, rep_sum, zero_freed}
+use Rattle.store.specs.Bank.{Bank, Owned, nothing, class_of, fresh, obtainable, obtained, spared, cleared, holding, listed_units}
+use Rattle.store.proofs.Views.{freed_at, none_units, units_at, rep_at, rep_sum, zero_freed}
 use Rattle.store.proofs.Models.{had_size, obtained_freed, obtained_new, obtained_none}
 use Rattle.store.proofs.Acts.{obtained_lists, smallest_holds, smallest_least}
 

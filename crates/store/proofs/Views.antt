@@ -1,13 +1,13 @@
 -- How a step renames the owners of units: what keeps them apart.
-use Rattle.std.proofs.Common.{◌≡◌, ℕ, zero, suc, ◌+◌, ◌-◌, ◌*◌, ◌/◌, ◌%◌, ◌^◌, ◌<◌, ◌≤◌, Bool, true, false, cond, eqb, ltb, ◌≢◌, ◌⊎◌, List, [], ◌∷◌, map, length, get_or, set, replicate, sum_by, sym, refl, ap, ◌∙◌, subst, inl, inr, add-mul, mul-le-mul_left, zero-mul, mul-one, add-one, arith, lit<, pow_pos, pow_mono}
+use Rattle.std.proofs.Common.{◌≡◌, ℕ, zero, suc, ◌+◌, ◌-◌, ◌*◌, ◌%◌, ◌^◌, ◌<◌, ◌≤◌, cond, eqb, ltb, ◌⊎◌, List, [], ◌∷◌, map, length, get_or, set, replicate, sum_by, sym, refl, ap, ◌∙◌, subst, inl, inr, add-mul, mul-le-mul_left, zero-mul, mul-one, add-one, arith, lit<, pow_pos, pow_mono}
 use lib.Pow.{pow-lt}
-use Rattle.std.proofs.lemmas.List.{get_or-set_same, get_or-set_other, length-set, get_or-replicate, get_or_past, length-replicate, length-map, get_or-map, map-set}
+use Rattle.std.proofs.lemmas.List.{get_or-set_same, get_or-set_other, get_or-replicate, get_or_past, length-replicate, length-map, get_or-map, map-set}
 use Rattle.std.proofs.lemmas.Bool.{cases_eq, cases_lt, cond-true, cond-false, eq-eqb, ne_eqb, lt-ltb, le-ltb}
 use Rattle.std.proofs.lemmas.Nat.{one_shl}
-use Rattle.std.proofs.lemmas.List.Sums.{sum_by-set, get_or-le-sum_by, sum_by-cons}
+use Rattle.std.proofs.lemmas.List.Sums.{sum_by-set, sum_by-cons}
 use Rattle.store.specs.declared.parts.Head.{Head}
 use Rattle.store.specs.declared.sizes.SizeRecord.{SizeRecord}
-use Rattle.store.specs.Units.{View, Owner, in_hand, listed, freed, untouched, Owns, code, Clash, Apart, Whole, Filled, Fits, Block, Within, units, walk, freed_units, no_head, no_record}
+use Rattle.store.specs.Units.{View, Owner, in_hand, listed, freed, untouched, Owns, code, Apart, Whole, Filled, Fits, Block, Within, units, walk, freed_units, no_head, no_record}
 
 same_owner : (a b : Owner) → code a ≡ code b → a ≡ b
 same_owner in_hand in_hand e = refl

@@ -1,5 +1,5 @@
 -- Blocks, counted in units of four cells, and who owns each unit.
-use Rattle.std.specs.Prelude.{◌≡◌, ℕ, zero, suc, ◌+◌, ◌*◌, ◌^◌, ◌<◌, ◌≤◌, Bool, cond, List, [], ◌∷◌, map, length, get_or, sum_by, nat_le, slice_index, slice_index_or}
+use Rattle.std.specs.Prelude.{◌≡◌, ℕ, zero, suc, ◌+◌, ◌*◌, ◌^◌, ◌<◌, ◌≤◌, cond, List, [], ◌∷◌, map, get_or, sum_by, nat_le, slice_index, slice_index_or}
 use Rattle.store.specs.declared.parts.Head.{Head}
 use Rattle.store.specs.declared.sizes.SizeRecord.{SizeRecord}
 

@@ -1,8 +1,7 @@
 -- Packed memory read as definitions, and one turn of a walk over it.
-use Rattle.std.proofs.Common.{◌≡◌, ℕ, suc, ◌+◌, ◌-◌, ◌<◌, ◌≤◌, List, length, get_or, None, sym, ap, ◌∙◌, arith}
+use Rattle.std.proofs.Common.{◌≡◌, ℕ, suc, ◌+◌, ◌-◌, ◌<◌, ◌≤◌, List, length, get_or, None, ap, ◌∙◌, arith}
 use Rattle.std.proofs.lemmas.List.{get_or-map, get_or_past, length-map}
 use Rattle.ir.specs.declared.entities.Value.{Value}
-use Rattle.ir.specs.declared.value_data.ValueData.{ValueData}
 use Rattle.ir.specs.declared.value_data.ValueDataPacked.{ValueDataPacked}
 use Rattle.ir.specs.Packing.{retired_mark}
 use Rattle.values.specs.declared.kind.Kind.{Kind}

@@ -1,11 +1,11 @@
 -- A live alias that is made one of the value that it leads to.
-use Rattle.std.proofs.Common.{◌≡◌, ℕ, zero, suc, true, false, cond, ◌&&◌, eqb, ◌≢◌, ◌⊎◌, List, set, Some, None, Option, sym, refl, ap, ◌∙◌, subst, inl, inr, arith}
+use Rattle.std.proofs.Common.{◌≡◌, ℕ, suc, true, false, cond, ◌&&◌, eqb, ◌≢◌, ◌⊎◌, List, set, Some, None, Option, sym, refl, ap, ◌∙◌, subst, inl, inr, arith}
 use Rattle.std.proofs.lemmas.Bool.{cases_eq, ne_eqb}
 use Rattle.ir.specs.declared.entities.Value.{Value}
 use Rattle.ir.specs.declared.entities.Type.{«Type» as Ty}
 use Rattle.ir.specs.declared.value_data.ValueData.{ValueData}
 use Rattle.ir.specs.declared.value_data.ValueData.TheVariants.{Alias}
-use Rattle.values.specs.declared.kind.Kind.TheVariants.{Root, Link, Gone}
+use Rattle.values.specs.declared.kind.Kind.TheVariants.{Link, Gone}
 use Rattle.values.specs.Leads.{kind, at, NonAlias, LiveAlias, Leads, here, step, leads_to, Redirects}
 use Rattle.values.proofs.Ways.{unique, end, at_same, kind_other, live_alias_exists, leads_some, some_leads, none_nowhere, nowhere_none}
 

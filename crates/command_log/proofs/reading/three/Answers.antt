@@ -1,4 +1,4 @@
-use Rattle.std.proofs.Common.{sym, subst}
+use Rattle.std.proofs.Common.{sym}
 use Rattle.command_log.proofs.Lines.{no_words, read_more}
 use Rattle.command_log.proofs.reading.three.Goals as goal
 

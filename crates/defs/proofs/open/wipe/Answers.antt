@@ -1,4 +1,4 @@
-use Rattle.std.proofs.Common.{◌≡◌, ◌<◌, ◌≢◌, length, replicate, sym, ◌∙◌, arith, below_more}
+use Rattle.std.proofs.Common.{◌<◌, ◌≢◌, length, replicate, sym, ◌∙◌, arith, below_more}
 use Rattle.std.proofs.lemmas.List.{get_or-set_same, get_or-set_other, ext_get_or, length-replicate, get_or-replicate}
 use Rattle.model.specs.declared.labels.Label.TheVariants.{Absent}
 use Rattle.defs.proofs.open.wipe.Goals as goal

@@ -1,6 +1,5 @@
-use Rattle.std.proofs.Common.{◌≡◌, ℕ, ◌+◌, ◌*◌, ◌<◌, ◌≤◌, [], length, Err, ap, ◌∙◌, arith}
+use Rattle.std.proofs.Common.{[], Err, ap, ◌∙◌, arith}
 use Rattle.std.proofs.lemmas.Result.{err_from_is_err_and}
-use Rattle.ir.specs.declared.entities.Inst.{Inst as InstId}
 use Rattle.model.specs.declared.fault.GraphFault.{GraphFault}
 use Rattle.model.specs.Refusals.{first}
 use Rattle.model.specs.State.{Graph, State}

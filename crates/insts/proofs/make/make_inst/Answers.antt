@@ -1,4 +1,4 @@
-use Rattle.std.proofs.Common.{◌≡◌, ℕ, ◌<◌, Err, sym, ap, ◌∙◌, subst}
+use Rattle.std.proofs.Common.{◌<◌, Err, sym, ap, ◌∙◌, subst}
 use Rattle.std.proofs.lemmas.Result.{err_from_is_err_and}
 use Rattle.ir.specs.declared.entities.Inst.{Inst as InstId}
 use Rattle.model.specs.declared.fault.GraphFault.{GraphFault}
@@ -7,7 +7,7 @@ use Rattle.model.specs.State.{Graph, State}
 use Rattle.model.specs.Edits.{insts_full, make_inst_rows, with_inst}
 use Rattle.defs.specs.Graphs.{graph_of}
 use Rattle.judges.specs.States.{state}
-use Rattle.insts.proofs.Makes.{Makes, judged_none, kept_same, made, makes, makes_answer, makes_never, refuses, unchanged_same}
+use Rattle.insts.proofs.Makes.{judged_none, kept_same, made, makes, makes_answer, makes_never, refuses, unchanged_same}
 use Rattle.insts.proofs.make.make_inst.Goals as goal
 
 pub returns-in_err-judge : goal.returns-in_err-judge

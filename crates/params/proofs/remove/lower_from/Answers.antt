@@ -1,7 +1,6 @@
-use Rattle.std.proofs.Common.{◌≡◌, ◌<◌, ◌≤◌, length, get_or, sym, ap, ◌∙◌, subst, arith}
+use Rattle.std.proofs.Common.{◌≡◌, ◌<◌, length, get_or, ap, ◌∙◌, arith}
 use Rattle.ir.specs.declared.entities.Value.{Value}
 use Rattle.store.specs.Bank.{Bank, items_of}
-use Rattle.defs.specs.Graphs.{graph_of}
 use Rattle.params.proofs.Lowering.{listed, lowered_one, lowered_all}
 use Rattle.params.proofs.remove.lower_from.Goals as goal
 

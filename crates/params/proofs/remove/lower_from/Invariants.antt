@@ -1,4 +1,3 @@
-use Rattle.std.proofs.Common.{◌≤◌}
 use Rattle.params.proofs.Lowering.{Lowering}
 use Rattle.params.proofs.remove.lower_from.Given as goal
 

@@ -1,7 +1,7 @@
 use Rattle.std.proofs.Common.{ap, arith}
 use Rattle.model.specs.State.{Graph}
 use Rattle.defs.specs.Graphs.{graph_of}
-use Rattle.defs.proofs.Places.{Within, within_still}
+use Rattle.defs.proofs.Places.{within_still}
 use Rattle.params.proofs.Judged.{remove_within}
 use Rattle.params.proofs.remove.remove_block_param.Goals as goal
 

@@ -1,7 +1,7 @@
 use Rattle.std.proofs.Common.{◌≡◌, ℕ, sym, ap, subst}
 use Rattle.store.specs.Bank.{Bank, bank}
 use Rattle.ir.specs.declared.entities.Value.{Value}
-use Rattle.model.specs.State.{Graph, result_list}
+use Rattle.model.specs.State.{Graph}
 use Rattle.defs.specs.Graphs.{graph_of}
 use Rattle.defs.proofs.Places.{Within}
 use Rattle.results.proofs.Judged.{replace_within}

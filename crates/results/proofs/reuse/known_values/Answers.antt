@@ -1,6 +1,5 @@
-use Rattle.std.proofs.Common.{◌≡◌, List, [], ◌∷◌, Some, None, Option, arith}
+use Rattle.std.proofs.Common.{[], ◌∷◌, None, arith}
 use Rattle.std.proofs.lemmas.Result.{err_from_is_err_and}
-use Rattle.ir.specs.declared.entities.Value.{Value}
 use Rattle.model.specs.Edits.{reused, unknown_values}
 use Rattle.defs.specs.Graphs.{graph_of}
 use Rattle.results.proofs.Each.{passed, stopped, ended, reused_each}

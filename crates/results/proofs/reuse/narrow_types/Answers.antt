@@ -1,4 +1,4 @@
-use Rattle.std.proofs.Common.{◌≡◌, leb, List, [], ◌∷◌, arith}
+use Rattle.std.proofs.Common.{leb, List, [], ◌∷◌, arith}
 use Rattle.std.proofs.lemmas.Result.{err_from_is_err_and}
 use Rattle.ir.specs.declared.entities.Type.{«Type» as Ty}
 use Rattle.ir.specs.declared.fault.PackFault.TheVariants.{Wide}

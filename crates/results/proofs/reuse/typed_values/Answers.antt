@@ -1,7 +1,6 @@
-use Rattle.std.proofs.Common.{◌≡◌, ◌≤◌, List, length, Option, ap, ◌∙◌, arith}
+use Rattle.std.proofs.Common.{length, ap, ◌∙◌, arith}
 use Rattle.std.proofs.lemmas.List.{length-take}
 use Rattle.std.proofs.lemmas.Result.{err_from_is_err_and}
-use Rattle.ir.specs.declared.entities.Value.{Value}
 use Rattle.model.specs.Edits.{mistyped}
 use Rattle.defs.specs.Graphs.{graph_of, judged}
 use Rattle.results.proofs.Each.{typed_passed, typed_stopped, typed_ended, typed_front}

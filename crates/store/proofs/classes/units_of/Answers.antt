@@ -1,4 +1,4 @@
-use Rattle.std.proofs.Common.{◌≡◌, ap, arith}
+use Rattle.std.proofs.Common.{ap, arith}
 use Rattle.store.specs.Units.{units}
 use Rattle.store.proofs.Views.{units_shl, none_units}
 use Rattle.store.proofs.classes.units_of.Goals as goal

@@ -1,4 +1,4 @@
-use Rattle.std.proofs.Common.{◌≡◌, ◌*◌, ◌≤◌, sym, refl, ap, ◌∙◌, arith, rules}
+use Rattle.std.proofs.Common.{◌*◌, ◌≤◌, sym, ap, ◌∙◌, arith, rules}
 use Rattle.store.specs.Units.{units}
 use Rattle.store.specs.declared.parts.PoolFault.TheVariants.{NoBlock}
 use Rattle.store.proofs.Views.{units_most}

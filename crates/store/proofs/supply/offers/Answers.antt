@@ -1,4 +1,4 @@
-use Rattle.std.proofs.Common.{◌≡◌, ◌-◌, ◌||◌, ltb, leb, sym, refl, ap, ◌∙◌, arith}
+use Rattle.std.proofs.Common.{◌-◌, ◌||◌, ltb, leb, sym, ap, ◌∙◌, arith}
 use Rattle.store.specs.Bank.{stock}
 use Rattle.store.proofs.Models.{offer_size, offer_none, offer_past}
 use Rattle.store.proofs.Stores.{count_at}

@@ -1,6 +1,6 @@
-use Rattle.std.proofs.Common.{◌≡◌, ◌+◌, ◌-◌, ◌^◌, ◌<◌, ◌≤◌, [], map, get_or, set, sym, refl, ap, ◌∙◌, arith}
+use Rattle.std.proofs.Common.{◌≡◌, ◌+◌, ◌-◌, map, get_or, set, sym, refl, ap, ◌∙◌, arith}
 use Rattle.std.proofs.lemmas.List.{map-set}
-use Rattle.store.specs.Units.{no_record, units}
+use Rattle.store.specs.Units.{no_record}
 use Rattle.store.specs.Bank.{stock, obtained}
 use Rattle.store.proofs.Views.{units_size}
 use Rattle.store.proofs.Models.{same_bank, had_size, obtained_none, obtained_freed, obtained_new}

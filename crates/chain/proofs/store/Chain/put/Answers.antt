@@ -1,5 +1,4 @@
 use Rattle.std.proofs.Common.{◌+◌, refl, arith, length-set}
-use Rattle.chain.specs.Links.{link}
 use Rattle.chain.proofs.Walks.{past_mean, past_sound}
 use Rattle.chain.proofs.store.Chain.put.Goals as goal
 

@@ -1,7 +1,6 @@
 use Rattle.std.proofs.Common.{ℕ, ◌+◌, get_or, set, refl, ap, ◌∙◌, arith}
 use Rattle.ir.specs.declared.entities.Value.{Value}
 use Rattle.table.specs.Table.{no_value}
-use Rattle.chain.specs.Links.{link}
 use Rattle.chain.proofs.Walks.{holds_more}
 use Rattle.chain.proofs.Means.{same_then}
 use Rattle.chain.proofs.store.Chain.write.Goals as goal

@@ -1,13 +1,7 @@
-use Rattle.std.proofs.Common.{◌≡◌, ℕ, ◌+◌, ◌*◌, ◌≤◌, min, List, [], length, replicate, sym, ap, ◌∙◌, arith, length-drop, length-take, rules}
+use Rattle.std.proofs.Common.{◌≡◌, ℕ, min, length, replicate, ap, ◌∙◌, arith, length-drop, length-take}
 use Rattle.std.proofs.lemmas.List.{length-replicate}
-use Rattle.ir.specs.declared.entities.Value.{Value}
-use Rattle.ir.specs.declared.value_data.ValueData.{ValueData}
-use Rattle.store.specs.Bank.{Bank, bank}
-use Rattle.model.specs.declared.labels.Label.{Label}
+use Rattle.store.specs.Bank.{bank}
 use Rattle.model.specs.declared.labels.Label.TheVariants.{Absent}
-use Rattle.model.specs.declared.labels.Start.{Start}
-use Rattle.model.specs.State.{Graph, Limits}
-use Rattle.defs.specs.Graphs.{Sound}
 use Rattle.defs.proofs.Lists.{fresh_count}
 use Rattle.defs.proofs.state.Defs.new.Goals as goal
 

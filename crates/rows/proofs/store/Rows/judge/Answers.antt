@@ -1,4 +1,4 @@
-use Rattle.std.proofs.Common.{◌<◌, ◌≤◌, length, set, sym, arith}
+use Rattle.std.proofs.Common.{◌<◌, ◌≤◌, length, sym, arith}
 use Rattle.table.specs.Table.{count, operands}
 use Rattle.table.proofs.Steps.{unknown, placed, unplaced}
 use Rattle.rows.specs.Rows.{rows_mean}

@@ -2,7 +2,6 @@ use Rattle.std.proofs.Common.{List, get_or, drop, sym, ap, ◌∙◌}
 use Rattle.std.proofs.lemmas.List.{get_or-take, get_or-drop}
 use Rattle.ir.specs.declared.entities.Value.{Value}
 use Rattle.table.specs.Table.{Row, no_value}
-use Rattle.table.proofs.Steps.{placed}
 use Rattle.rows.specs.declared.cell.RowCell.{RowCell}
 use Rattle.rows.specs.Cells.{at}
 use Rattle.rows.proofs.Words.{long_ops, long_within}

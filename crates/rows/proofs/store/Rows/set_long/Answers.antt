@@ -1,6 +1,5 @@
 use Rattle.std.proofs.Common.{length-set}
 use Rattle.table.specs.Table.{no_value}
-use Rattle.table.proofs.Steps.{placed}
 use Rattle.rows.proofs.Words.{long_within, long_mean, long_sound}
 use Rattle.rows.proofs.store.Rows.set_long.Goals as goal
 

@@ -1,5 +1,4 @@
 use Rattle.std.proofs.Common.{length-set}
-use Rattle.table.proofs.Steps.{placed}
 use Rattle.rows.proofs.Words.{short_mean, short_sound}
 use Rattle.rows.proofs.store.Rows.set_short.Goals as goal
 

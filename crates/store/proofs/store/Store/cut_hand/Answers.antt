@@ -1,7 +1,6 @@
-use Rattle.std.proofs.Common.{◌≡◌, ℕ, ◌+◌, ◌-◌, ◌*◌, ◌^◌, ◌<◌, ◌≤◌, List, [], ◌∷◌, ◌++◌, map, length, get_or, take, drop, set, sym, refl, ap, ◌∙◌, subst, arith, rules}
-use Rattle.store.specs.Bank.{view, owned, nothing}
-use Rattle.store.specs.Held.{held, shown}
-use Rattle.store.specs.Units.{units, no_head, no_record}
+use Rattle.std.proofs.Common.{◌-◌, refl, arith, rules}
+use Rattle.store.specs.Bank.{view, owned}
+use Rattle.store.specs.Held.{held}
 use Rattle.store.proofs.Views.{resize_apart}
 use Rattle.store.proofs.Items.{cut_hand}
 use Rattle.store.proofs.Stores.{same_held, sounds, hand_in, hand_long}

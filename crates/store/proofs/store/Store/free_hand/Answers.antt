@@ -1,7 +1,7 @@
-use Rattle.std.proofs.Common.{◌≡◌, ℕ, ◌+◌, ◌-◌, ◌*◌, ◌^◌, ◌<◌, ◌≤◌, List, [], ◌∷◌, ◌++◌, map, length, get_or, take, drop, set, sym, refl, ap, ◌∙◌, subst, arith, rules}
-use Rattle.store.specs.Bank.{view, owned, nothing}
-use Rattle.store.specs.Held.{held, shown}
-use Rattle.store.specs.Units.{units, no_head, no_record}
+use Rattle.std.proofs.Common.{◌+◌, ◌-◌, ◌<◌, map, length, get_or, set, sym, refl, ap, ◌∙◌, subst, arith}
+use Rattle.store.specs.Bank.{view, owned}
+use Rattle.store.specs.Held.{held}
+use Rattle.store.specs.Units.{no_record}
 use Rattle.std.proofs.lemmas.List.{length-set, map-set}
 use Rattle.store.specs.Units.{Apart, Whole}
 use Rattle.store.proofs.Views.{units_pos, units_size, hand_below, release_apart, release_whole, is_released, count_below}

@@ -1,6 +1,5 @@
-use Rattle.std.proofs.Common.{◌≡◌, ℕ, ◌*◌, ◌≤◌, ltb, length, get_or, sym, refl, ap, ◌∙◌, arith, rules}
+use Rattle.std.proofs.Common.{◌*◌, ◌≤◌, ltb, get_or, sym, ap, ◌∙◌, arith, rules}
 use Rattle.store.specs.Units.{units, no_head}
-use Rattle.store.specs.Bank.{bank, class_of, items_of}
 use Rattle.store.proofs.Views.{units_most}
 use Rattle.store.proofs.Stores.{many, len_is, class_of_is}
 use Rattle.store.proofs.store.Store.is_roomy.Goals as goal

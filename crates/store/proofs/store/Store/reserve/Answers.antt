@@ -1,6 +1,6 @@
-use Rattle.std.proofs.Common.{◌≡◌, ◌<◌, [], sym, ap, ◌∙◌, arith}
+use Rattle.std.proofs.Common.{[], sym, ap, ◌∙◌, arith}
 use Rattle.store.specs.Units.{smallest}
-use Rattle.store.specs.Bank.{bank, class_of, cleared, holding, obtainable, obtained}
+use Rattle.store.specs.Bank.{bank, cleared, holding, obtainable, obtained}
 use Rattle.store.specs.Held.{held}
 use Rattle.store.proofs.Stores.{many, class_of_is, free_many}
 use Rattle.store.proofs.Models.{none_block, write_known, write_block, other_block}

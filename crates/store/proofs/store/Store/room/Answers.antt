@@ -1,4 +1,4 @@
-use Rattle.std.proofs.Common.{◌≡◌, ◌+◌, ◌-◌, sym, refl, ap, ◌∙◌, arith, rules}
+use Rattle.std.proofs.Common.{◌+◌, sym, ap, ◌∙◌, arith}
 use Rattle.store.specs.Bank.{bank, fault_block}
 use Rattle.store.specs.Faults.{judged}
 use Rattle.store.proofs.Stores.{many}

@@ -1,6 +1,6 @@
-use Rattle.std.proofs.Common.{◌≡◌, ◌-◌, true, false, Err, sym, refl, ap, ◌∙◌, arith}
+use Rattle.std.proofs.Common.{◌≡◌, ◌-◌, true, false, Err, sym, ap, ◌∙◌}
 use Rattle.store.specs.Units.{smallest}
-use Rattle.store.specs.Bank.{bank, stock, obtainable, no_block}
+use Rattle.store.specs.Bank.{bank, stock, obtainable}
 use Rattle.store.specs.Faults.{judged}
 use Rattle.store.proofs.Stores.{store_stock}
 use Rattle.store.proofs.Models.{same_offer, block_none, block_some}

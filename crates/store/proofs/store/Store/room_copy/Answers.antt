@@ -1,4 +1,4 @@
-use Rattle.std.proofs.Common.{◌≡◌, sym, refl, ap, ◌∙◌, arith}
+use Rattle.std.proofs.Common.{sym, ap, ◌∙◌, arith}
 use Rattle.store.specs.Bank.{bank, fault_write}
 use Rattle.store.specs.Faults.{judged}
 use Rattle.store.proofs.Stores.{many}

@@ -1,6 +1,5 @@
-use Rattle.std.proofs.Common.{◌≡◌, ◌+◌, ◌-◌, true, false, length, get_or, drop, Err, sym, refl, ap, ◌∙◌, arith}
+use Rattle.std.proofs.Common.{◌+◌, ◌-◌, get_or, drop, Err, sym, ap, ◌∙◌, arith}
 use Rattle.std.proofs.lemmas.List.{drop_more, drop_all}
-use Rattle.store.specs.Units.{smallest}
 use Rattle.store.specs.Bank.{bank, stock, obtainable, obtained, fault_for}
 use Rattle.store.specs.Faults.{judged}
 use Rattle.store.proofs.Stores.{store_stock}

@@ -1,8 +1,7 @@
-use Rattle.std.proofs.Common.{◌≡◌, ℕ, ◌+◌, ◌-◌, ◌*◌, ◌^◌, ◌<◌, ◌≤◌, List, [], ◌∷◌, ◌++◌, map, length, get_or, take, drop, set, sym, refl, ap, ◌∙◌, subst, arith, rules}
-use Rattle.store.specs.Bank.{view, owned, nothing}
-use Rattle.store.specs.Held.{held, shown}
-use Rattle.store.specs.Units.{units, no_head, no_record}
-use Rattle.store.specs.Held.{exchange, freeing, settled}
+use Rattle.std.proofs.Common.{◌≡◌, get_or, sym, refl, ap, ◌∙◌, arith}
+use Rattle.store.specs.Bank.{nothing}
+use Rattle.store.specs.Held.{held}
+use Rattle.store.specs.Held.{freeing}
 use Rattle.store.proofs.Models.{spared_none}
 use Rattle.store.proofs.Stores.{same_held, hand_class, nothing_in_hand}
 use Rattle.store.proofs.store.Store.settle.Goals as goal

@@ -1,7 +1,6 @@
-use Rattle.std.proofs.Common.{◌≡◌, ℕ, ◌+◌, ◌-◌, ◌*◌, ◌^◌, ◌<◌, ◌≤◌, List, [], ◌∷◌, ◌++◌, map, length, get_or, take, drop, set, sym, refl, ap, ◌∙◌, subst, arith, rules}
-use Rattle.store.specs.Bank.{view, owned, nothing}
-use Rattle.store.specs.Held.{held, shown}
-use Rattle.store.specs.Units.{units, no_head, no_record}
+use Rattle.std.proofs.Common.{◌<◌, length, sym, refl, arith}
+use Rattle.store.specs.Bank.{view, owned}
+use Rattle.store.specs.Held.{held}
 use Rattle.std.proofs.lemmas.List.{map-set}
 use Rattle.store.proofs.Views.{swap_apart, swap_whole, set_fits}
 use Rattle.store.proofs.Items.{list_at}

@@ -1,8 +1,5 @@
-use Rattle.std.proofs.Common.{◌≡◌, ℕ, ◌+◌, ◌-◌, ◌*◌, ◌^◌, ◌<◌, ◌≤◌, List, [], ◌∷◌, ◌++◌, map, length, get_or, take, drop, set, sym, refl, ap, ◌∙◌, subst, arith, rules}
-use Rattle.store.specs.Bank.{view, owned, nothing}
+use Rattle.std.proofs.Common.{◌-◌, ap, arith}
 use Rattle.store.specs.Held.{held, shown}
-use Rattle.store.specs.Units.{units, no_head, no_record}
-use Rattle.store.specs.Held.{grasping}
 use Rattle.store.proofs.Models.{had_size}
 use Rattle.store.proofs.Stores.{free_is}
 use Rattle.store.proofs.store.Store.take_hand.Goals as goal

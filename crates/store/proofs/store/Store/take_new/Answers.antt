@@ -1,7 +1,6 @@
-use Rattle.std.proofs.Common.{◌≡◌, ℕ, ◌+◌, ◌-◌, ◌*◌, ◌^◌, ◌<◌, ◌≤◌, List, [], ◌∷◌, ◌++◌, map, length, get_or, take, drop, set, sym, refl, ap, ◌∙◌, subst, arith, rules}
-use Rattle.store.specs.Bank.{view, owned, nothing}
+use Rattle.std.proofs.Common.{◌≡◌, ◌+◌, ◌-◌, ◌^◌, ◌≤◌, map, get_or, sym, refl, ap, ◌∙◌, subst, arith, rules}
+use Rattle.store.specs.Bank.{view, owned}
 use Rattle.store.specs.Held.{held, shown}
-use Rattle.store.specs.Units.{units, no_head, no_record}
 use Rattle.store.specs.Units.{Apart, Whole}
 use Rattle.store.proofs.Views.{units_at, break_apart, break_whole, is_broken}
 use Rattle.store.proofs.Models.{obtained_new}

@@ -1,4 +1,4 @@
-use Rattle.std.proofs.Common.{length, refl, ap, zero-le, arith, rules}
+use Rattle.std.proofs.Common.{length, refl, ap, zero-le, rules}
 use Rattle.values.proofs.Fronts.{listed_none, canonicals_none}
 use Rattle.values.proofs.table.ValueTable.new.Goals as goal
 
