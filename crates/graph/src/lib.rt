@@ -3,7 +3,7 @@
 // The graph that users hold, in memory that they lend. Every value of it is sound, so its calls ask nothing.
 pub mod blocks;
 pub mod graph;
-pub mod insts;
-pub mod params;
+pub mod inst_edits;
+pub mod param_edits;
 pub mod reads;
-pub mod results;
+pub mod result_lists;
