@@ -4,7 +4,7 @@ use Rattle.ir.specs.declared.entities.Block.{Block}
 use Rattle.table.specs.Table.{Table}
 use Rattle.model.specs.declared.fault.GraphFault.{GraphFault}
 use Rattle.model.specs.declared.fault.GraphFault.TheVariants.{Unknown}
-use Rattle.model.specs.Refusals.{Row, first_of}
+use Rattle.model.specs.Refusals.{Row, first_among}
 use Rattle.model.specs.State.{Graph, State}
 
 abbrev pub state : Graph → Table → State
@@ -17,7 +17,7 @@ answered (Some f) a = Err f
 
 -- the first of several blocks that does not exist
 abbrev pub unknown_blocks : Graph → List Block → Row
-unknown_blocks g bs = first_of (λ b. nat_le g.blocks b.0) (λ b. Unknown b.0) bs
+unknown_blocks g bs = first_among (λ b. nat_le g.blocks b.0) (λ b. Unknown b.0) bs
 
 -- at a refusal a table, or a memory, is what it was
 abbrev pub Unchanged : {A X : Type 0} → Result A GraphFault → X → X → Type 0

@@ -18,7 +18,7 @@ use Rattle.model.specs.declared.fault.GraphFault.TheVariants.{Side}
 use Rattle.model.specs.declared.labels.Start.{Start}
 use Rattle.model.specs.declared.labels.Label.{Label}
 use Rattle.model.specs.declared.labels.Label.TheVariants as label
-use Rattle.model.specs.Refusals.{first_of}
+use Rattle.model.specs.Refusals.{first_among}
 use Rattle.model.specs.State.{State, value, no_value}
 use Rattle.model.specs.Flattening.{is_link, live, flat, all_operands, retargeted, relabelled, starts_dropped, alias_side, first_side}
 use Rattle.model.specs.Laws.{Usable, AliasesLeadHome}
@@ -152,16 +152,16 @@ side_absent all (d ∷ ds) n e k h = by (alias_side all d) refl e k h (side_abse
 
 -- a row that fits no operand does not hold
 first_of_app : {A : Type 0} (fits : A → Bool) (fault : A → GraphFault) (xs ys : List A) (d : A) →
-    ((k : ℕ) → k < length xs → fits (get_or xs k d) ≡ false) → first_of fits fault ys ≡ None → first_of fits fault (xs ++ ys) ≡ None
+    ((k : ℕ) → k < length xs → fits (get_or xs k d) ≡ false) → first_among fits fault ys ≡ None → first_among fits fault (xs ++ ys) ≡ None
 first_of_app fits fault [] ys d h e = e
 first_of_app fits fault (x ∷ xs) ys d h e =
     let f : fits x ≡ false = h 0 (omega arith) in
-    ap (λ (b : Bool). cond b (Some (fault x)) (first_of fits fault (xs ++ ys))) f
+    ap (λ (b : Bool). cond b (Some (fault x)) (first_among fits fault (xs ++ ys))) f
     ∙ first_of_app fits fault xs ys d (λ k q. h (suc k) (omega arith)) e
 
 pub no_operand : (fits : Value → Bool) (fault : Value → GraphFault) (rows : List TableRow) →
     ((i k : ℕ) → i < length rows → k < length (get_or rows i no_row).operands → fits (get_or (get_or rows i no_row).operands k no_value) ≡ false) →
-    first_of fits fault (all_operands rows) ≡ None
+    first_among fits fault (all_operands rows) ≡ None
 no_operand fits fault [] h = refl
 no_operand fits fault (r ∷ rows) h =
     first_of_app fits fault r.operands (all_operands rows) no_value (λ k q. h 0 k (omega arith) q)

@@ -14,7 +14,7 @@ use Rattle.values.proofs.Ways.{leads_some, some_leads, at_other, kind_other, non
 use Rattle.renaming.specs.Renames.{end_of}
 use Rattle.model.specs.declared.fault.GraphFault.{GraphFault}
 use Rattle.model.specs.declared.fault.GraphFault.TheVariants.{Unknown, Retired}
-use Rattle.model.specs.Refusals.{Row, when, first_of, first, done, unless}
+use Rattle.model.specs.Refusals.{Row, when, first_among, first, done, unless}
 use Rattle.model.specs.State.{Graph, State, no_value, attached_by}
 use Rattle.model.specs.Edits.{with_defs, types_differ, change_rows, aliased}
 use Rattle.model.specs.Runs.{does, plain, is_plain, on_graph, change_to_alias}
@@ -121,7 +121,7 @@ rows_pass [] p = refl
 rows_pass (r ∷ rows) p = ap (λ (x : Row). first (x ∷ rows)) p.0 ∙ rows_pass rows p.1
 
 first_of_two : {A : Type 0} (fits : A → Bool) (fault : A → GraphFault) (x y : A) → fits x ≡ false → fits y ≡ false →
-    first_of fits fault (x ∷ y ∷ []) ≡ None
+    first_among fits fault (x ∷ y ∷ []) ≡ None
 first_of_two fits fault x y p q = λ i. cond (p i) (Some (fault x)) (cond (q i) (Some (fault y)) None)
 
 when_false : (b : Bool) (f : GraphFault) → b ≡ false → when b f ≡ None

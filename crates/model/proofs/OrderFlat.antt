@@ -15,7 +15,7 @@ use Rattle.model.specs.declared.fault.GraphFault.TheVariants.{Unknown, Retired, 
 use Rattle.model.specs.declared.labels.Start.{Start}
 use Rattle.model.specs.declared.labels.Label.{Label}
 use Rattle.model.specs.declared.labels.Label.TheVariants as label
-use Rattle.model.specs.Refusals.{Row, first_of, first, done, refused, unless}
+use Rattle.model.specs.Refusals.{Row, first_among, first, done, refused, unless}
 use Rattle.model.specs.State.{Graph, State, value, inst}
 use Rattle.model.specs.Edits.{with_defs, calls_renamed, counts_differ}
 use Rattle.model.specs.Flattening.{live, is_link, flat, all_operands, table_renamed, all_calls_renamed, retargeted, relabelled}
@@ -123,8 +123,8 @@ module _ (vs ws : List ValueData) (si : Similar vs ws) where
 
     rows_same : flatten_rows (with vs) ≡ flatten_rows (with ws)
     rows_same = λ i.
-        first_of (λ v. leb (si.long i) v.0) (λ v. Unknown v.0) (all_operands tb.rows)
-        ∷ first_of (retired_same i) (λ v. Retired v.0) (all_operands tb.rows)
+        first_among (λ v. leb (si.long i) v.0) (λ v. Unknown v.0) (all_operands tb.rows)
+        ∷ first_among (retired_same i) (λ v. Retired v.0) (all_operands tb.rows)
         ∷ counts_differ (with vs)
         ∷ sides_same i
         ∷ []

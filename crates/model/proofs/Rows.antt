@@ -1,7 +1,7 @@
 -- What an accepted edit says: no row held, and the state after it is the one that the edit gives.
 use Rattle.std.proofs.Common.{◌≡◌, ℕ, zero, suc, ◌<◌, Bool, true, false, cond, List, [], ◌∷◌, length, get_or, Some, None, refl, not-suc-le-zero, arith}
 use Rattle.model.specs.declared.fault.GraphFault.{GraphFault}
-use Rattle.model.specs.Refusals.{Row, when, first_of, first, done, unless, settle}
+use Rattle.model.specs.Refusals.{Row, when, first_among, first, done, unless, settle}
 use Rattle.model.specs.State.{Graph, State}
 use Rattle.model.specs.Runs.{Answer, on_graph, on_state}
 
@@ -47,9 +47,9 @@ cond_none true f r e = let z : ◌≡◌ {A = ℕ} 0 1 = cc in absurd (omega ari
 cond_none false f r e = (refl, e)
 
 -- where the row fits no argument, it fits none of them
-pub first_of_none : {A : Type 0} (fits : A → Bool) (fault : A → GraphFault) (xs : List A) → first_of fits fault xs ≡ None →
+pub first_of_none : {A : Type 0} (fits : A → Bool) (fault : A → GraphFault) (xs : List A) → first_among fits fault xs ≡ None →
     (d : A) (k : ℕ) → k < length xs → fits (get_or xs k d) ≡ false
 first_of_none fits fault [] e d k h = absurd (not-suc-le-zero h)
-first_of_none fits fault (x ∷ xs) e d zero h = (cond_none (fits x) (fault x) (first_of fits fault xs) e).0
+first_of_none fits fault (x ∷ xs) e d zero h = (cond_none (fits x) (fault x) (first_among fits fault xs) e).0
 first_of_none fits fault (x ∷ xs) e d (suc k) h =
-    first_of_none fits fault xs (cond_none (fits x) (fault x) (first_of fits fault xs) e).1 d k (omega arith)
+    first_of_none fits fault xs (cond_none (fits x) (fault x) (first_among fits fault xs) e).1 d k (omega arith)

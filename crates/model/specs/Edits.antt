@@ -1,5 +1,5 @@
 -- What each edit does, and when it is refused: its rows stand in the order of their numbers.
-use Rattle.std.specs.Prelude.{ℕ, ◌+◌, ◌-◌, min, Bool, true, false, cond, not, ◌&&◌, ◌||◌, leb, List, [], ◌∷◌, ◌++◌, map, length, take, drop, Some, None, Ok, Err, Option, Result, ◌==◌, nat_le, nat_lt, slice_index_or, slice_set}
+use Rattle.std.specs.Prelude.{ℕ, ◌+◌, ◌-◌, min, Bool, true, false, cond, not, ◌&&◌, ◌||◌, nat_le, List, [], ◌∷◌, ◌++◌, map, length, take, drop, Some, None, Ok, Err, Option, Result, ◌==◌, nat_lt, slice_index_or, slice_set}
 use Rattle.ir.specs.declared.entities.Value.{Value}
 use Rattle.ir.specs.declared.entities.Inst.{Inst as InstId}
 use Rattle.ir.specs.declared.entities.Block.{Block}
@@ -20,7 +20,7 @@ use Rattle.model.specs.declared.fault.GraphFault.TheVariants.{Unknown, Retired, 
 use Rattle.model.specs.declared.labels.Start.{Start}
 use Rattle.model.specs.declared.labels.Label.{Label}
 use Rattle.model.specs.declared.labels.Label.TheVariants as label
-use Rattle.model.specs.Refusals.{Row, when, first_of, by_pool, by_table, Outcome, settle}
+use Rattle.model.specs.Refusals.{Row, when, first_among, by_pool, by_table, Outcome, settle}
 use Rattle.model.specs.State.{Graph, State, Entry, starts, alias, value, inst, block, param_list, result_list, call_list, params, results, call, has_call, arguments, value_argument, values_in, inst_values, attached, no_value}
 
 -- a graph with other parts
@@ -35,10 +35,10 @@ with_inst g = record { defs = g.defs; blocks = g.blocks; insts = g.insts + 1; wo
 
 -- the rows that many edits share
 abbrev pub unknown_values : Graph → List Value → Row
-unknown_values g vs = first_of (λ v. leb (length g.defs) v.0) (λ v. Unknown v.0) vs
+unknown_values g vs = first_among (λ v. nat_le (length g.defs) v.0) (λ v. Unknown v.0) vs
 
 abbrev pub retired_values : Graph → List Value → Row
-retired_values g vs = first_of (λ v. retired (at g.defs v)) (λ v. Retired v.0) vs
+retired_values g vs = first_among (λ v. retired (at g.defs v)) (λ v. Retired v.0) vs
 
 abbrev pub unknown_inst : Graph → InstId → Row
 unknown_inst g i = when (nat_le g.insts i.0) (Unknown i.0)
@@ -109,7 +109,7 @@ aimed g i j (t ∷ ts) b = aimed g i (j + 1) ts (written b (call_list g i j) (va
 abbrev pub make_inst_rows : State → List Value → List Block → List Row
 make_inst_rows s os ts =
     unknown_values s.graph os
-    ∷ first_of (λ t. leb s.graph.blocks t.0) (λ t. Unknown t.0) ts
+    ∷ first_among (λ t. nat_le s.graph.blocks t.0) (λ t. Unknown t.0) ts
     ∷ retired_values s.graph os
     ∷ counts_differ s
     ∷ when (nat_lt 2 (length ts)) (Count (min (length ts) 4294967295))
@@ -160,7 +160,7 @@ of_inst d i = is_result d && (inst_of d).0 == i.0
 
 abbrev pub attached_elsewhere : Graph → InstId → List Value → Row
 attached_elsewhere g i vs =
-    first_of (λ v. attached g v && not (of_inst (at g.defs v) i)) (λ v. Attached v.0) vs
+    first_among (λ v. attached g v && not (of_inst (at g.defs v) i)) (λ v. Attached v.0) vs
 
 abbrev pub mistyped : Graph → List Ty → List (Option Value) → Row
 mistyped g [] reuse = None
@@ -183,7 +183,7 @@ make_inst_results_rows g i ts reuse =
     unknown_inst g i
     ∷ unknown_values g (reused (take (length ts) reuse))
     ∷ retired_values g (reused (take (length ts) reuse))
-    ∷ first_of (λ t. leb 16384 t.0) (λ t. Packing (Wide t.0)) ts
+    ∷ first_among (λ t. nat_le 16384 t.0) (λ t. Packing (Wide t.0)) ts
     ∷ attached_elsewhere g i (reused (take (length ts) reuse))
     ∷ mistyped g ts reuse
     ∷ repeated (reused (take (length ts) reuse))

@@ -37,9 +37,9 @@ abbrev pub when : Bool → GraphFault → Row
 when b fault = cond b (Some fault) None
 
 -- for the first of several arguments that the row fits
-abbrev pub first_of : {A : Type 0} → (A → Bool) → (A → GraphFault) → List A → Row
-first_of fits fault [] = None
-first_of fits fault (x ∷ xs) = cond (fits x) (Some (fault x)) (first_of fits fault xs)
+abbrev pub first_among : {A : Type 0} → (A → Bool) → (A → GraphFault) → List A → Row
+first_among fits fault [] = None
+first_among fits fault (x ∷ xs) = cond (fits x) (Some (fault x)) (first_among fits fault xs)
 
 -- what a layer below refuses travels whole
 abbrev pub by_pool : Option PoolFault → Row

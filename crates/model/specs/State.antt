@@ -1,5 +1,5 @@
 -- What a graph is.
-use Rattle.std.specs.Prelude.{ℕ, ◌+◌, ◌*◌, Bool, false, ◌&&◌, List, [], ◌∷◌, ◌++◌, length, get_or, drop, Some, None, Ok, Err, Option, Result, ◌==◌, nat_lt, slice_index_or}
+use Rattle.std.specs.Prelude.{ℕ, ◌+◌, ◌*◌, Bool, false, ◌&&◌, List, [], ◌∷◌, ◌++◌, length, slice_index_or, drop, Some, None, Ok, Err, Option, Result, ◌==◌, nat_lt}
 use Rattle.ir.specs.declared.entities.Value.{Value}
 use Rattle.ir.specs.declared.entities.Inst.{Inst as InstId}
 use Rattle.ir.specs.declared.entities.Block.{Block}
@@ -118,7 +118,7 @@ abbrev pub no_value : Value
 no_value = record { 0 = 0 }
 
 abbrev pub holds : List Value → ℕ → Value → Bool
-holds vs n v = nat_lt n (length vs) && (get_or vs n no_value).0 == v.0
+holds vs n v = nat_lt n (length vs) && (slice_index_or vs n no_value).0 == v.0
 
 -- A value is attached when it is a result or parameter and the list of its instruction or block holds it at its number.
 abbrev pub attached_by : Graph → Value → ValueData → Bool

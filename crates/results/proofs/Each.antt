@@ -7,7 +7,7 @@ use Rattle.ir.specs.Packing.{type}
 use Rattle.values.specs.Leads.{at as at-def}
 use Rattle.model.specs.declared.fault.GraphFault.{GraphFault}
 use Rattle.model.specs.declared.fault.GraphFault.TheVariants.{Twice, Types}
-use Rattle.model.specs.Refusals.{Row, first_of}
+use Rattle.model.specs.Refusals.{Row, first_among}
 use Rattle.model.specs.State.{Graph}
 use Rattle.model.specs.Edits.{among, mistyped, repeated, reused}
 use Rattle.defs.specs.Graphs.{judged}
@@ -49,11 +49,11 @@ cond_else : (b : Bool) (f : GraphFault) (r : Row) → cond b (Some f) r ≡ or_e
 cond_else true f r = refl
 cond_else false f r = refl
 
-pub first_each : {X : Type 0} (fits : X → Bool) (fault : X → GraphFault) (x : X) (xs : List X) → first_of fits fault (x ∷ xs) ≡ or_else (first_of fits fault (x ∷ [])) (first_of fits fault xs)
-first_each fits fault x xs = cond_else (fits x) (fault x) (first_of fits fault xs)
+pub first_each : {X : Type 0} (fits : X → Bool) (fault : X → GraphFault) (x : X) (xs : List X) → first_among fits fault (x ∷ xs) ≡ or_else (first_among fits fault (x ∷ [])) (first_among fits fault xs)
+first_each fits fault x xs = cond_else (fits x) (fault x) (first_among fits fault xs)
 
 pub reused_each : (fits : Value → Bool) (fault : Value → GraphFault) (e : Option Value) (es : List (Option Value)) →
-    first_of fits fault (reused (e ∷ es)) ≡ or_else (first_of fits fault (reused (e ∷ []))) (first_of fits fault (reused es))
+    first_among fits fault (reused (e ∷ es)) ≡ or_else (first_among fits fault (reused (e ∷ []))) (first_among fits fault (reused es))
 reused_each fits fault None es = refl
 reused_each fits fault (Some v) es = first_each fits fault v (reused es)
 

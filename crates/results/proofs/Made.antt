@@ -14,7 +14,7 @@ use Rattle.store.proofs.Models.{none_block, offer_past, write_block, write_known
 use Rattle.store.proofs.Acts.{smallest_holds}
 use Rattle.model.specs.declared.fault.GraphFault.{GraphFault}
 use Rattle.model.specs.declared.fault.GraphFault.TheVariants.{Full, Long, Packing, Unknown}
-use Rattle.model.specs.Refusals.{Row, by_pool, first, first_of, outcome, settle, unless}
+use Rattle.model.specs.Refusals.{Row, by_pool, first, first_among, outcome, settle, unless}
 use Rattle.model.specs.State.{Graph, result_list}
 use Rattle.model.specs.Edits.{make_inst_results_rows, reused, seated, seats, with_defs, with_results, with_words}
 use Rattle.model.proofs.Banks.{OnlyList, cleared_only, holding_only, obtained_lists, only_from, only_then}
@@ -33,15 +33,15 @@ cond_none true f r e = let z : ◌≡◌ {A = ℕ} 0 1 = cc in absurd (omega ari
 cond_none false f r e = (refl, e)
 
 -- no value to reuse is unknown
-known_each : (ds : List ValueData) (us : List (Option Value)) → first_of (λ v. leb (length ds) v.0) (λ v. Unknown v.0) (reused us) ≡ None →
+known_each : (ds : List ValueData) (us : List (Option Value)) → first_among (λ v. leb (length ds) v.0) (λ v. Unknown v.0) (reused us) ≡ None →
     (k : ℕ) → Known ds (get_or us k None)
 known_each ds [] e k = tt
 known_each ds (None ∷ us) e zero = tt
 known_each ds (None ∷ us) e (suc k) = known_each ds us e k
 known_each ds (Some v ∷ us) e zero =
-    leb-false (length ds) v.0 (cond_none (leb (length ds) v.0) (Unknown v.0) (first_of (λ v. leb (length ds) v.0) (λ v. Unknown v.0) (reused us)) e).0
+    leb-false (length ds) v.0 (cond_none (leb (length ds) v.0) (Unknown v.0) (first_among (λ v. leb (length ds) v.0) (λ v. Unknown v.0) (reused us)) e).0
 known_each ds (Some v ∷ us) e (suc k) =
-    known_each ds us (cond_none (leb (length ds) v.0) (Unknown v.0) (first_of (λ v. leb (length ds) v.0) (λ v. Unknown v.0) (reused us)) e).1 k
+    known_each ds us (cond_none (leb (length ds) v.0) (Unknown v.0) (first_among (λ v. leb (length ds) v.0) (λ v. Unknown v.0) (reused us)) e).1 k
 
 -- a place has a new value or one to reuse
 news_are : (ts : List Ty) (us : List (Option Value)) → news ts us + length (reused (take (length ts) us)) ≡ length ts

@@ -1,5 +1,5 @@
 -- The values that results are made of: each place takes the one to reuse, or a new one.
-use Rattle.std.specs.Prelude.{◌≡◌, ℕ, suc, ◌+◌, ◌*◌, ◌<◌, ◌≤◌, List, [], ◌∷◌, length, get_or, Some, None, Option, slice_index_or}
+use Rattle.std.specs.Prelude.{◌≡◌, ℕ, suc, ◌+◌, ◌*◌, ◌<◌, ◌≤◌, List, [], ◌∷◌, length, slice_index_or, Some, None, Option}
 use Rattle.ir.specs.declared.entities.Value.{Value}
 use Rattle.ir.specs.declared.entities.Inst.{Inst}
 use Rattle.ir.specs.declared.entities.Type.{«Type» as Ty}
@@ -46,7 +46,7 @@ pub record Seatable (g : Graph) (l : ℕ) (ts : List Ty) (us : List (Option Valu
   pub empty : items_of g.words l ≡ []
   pub block : length ts ≤ 4 * units (class_of g.words l)
   pub short : length ts ≤ 65536
-  pub narrow : (k : ℕ) → k < length ts → (get_or ts k (record { 0 = 0 })).0 < 16384
+  pub narrow : (k : ℕ) → k < length ts → (slice_index_or ts k (record { 0 = 0 })).0 < 16384
   pub known : (k : ℕ) → k < length ts → Known g.defs (slice_index_or us k None)
   pub room : length g.defs + news ts us ≤ g.limits.values
 

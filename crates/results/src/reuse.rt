@@ -2,7 +2,7 @@
 ghost use Rattle.std.specs.Prelude.{◌≡◌, ◌≤◌, [], ◌∷◌, length, take, drop, nat_le};
 ghost use Rattle.ir.specs.declared.fault.PackFault.TheVariants.{Wide};
 ghost use Rattle.model.specs.declared.fault.GraphFault.TheVariants.{Packing};
-ghost use Rattle.model.specs.Refusals.{first_of};
+ghost use Rattle.model.specs.Refusals.{first_among};
 ghost use Rattle.model.specs.Edits.{among, attached_elsewhere, mistyped, of_inst, repeated, retired_values, reused, unknown_values};
 ghost use Rattle.defs.specs.Graphs.{Sound, graph_of, judged};
 ghost use Rattle.results.specs.Seats.{named_again};
@@ -102,7 +102,7 @@ pub(crate) fn free_values(
 }
 
 pub(crate) fn narrow_types(types: &[Type]) -> Result<(), GraphFault>
-    ensures { result ≡ judged (first_of (λ t. nat_le 16384 t.0) (λ t. Packing (Wide t.0)) types.now) }
+    ensures { result ≡ judged (first_among (λ t. nat_le 16384 t.0) (λ t. Packing (Wide t.0)) types.now) }
 {
     for ty in types {
         narrow_type(*ty)?;

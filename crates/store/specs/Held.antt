@@ -1,5 +1,5 @@
 -- What a store holds in the midst of a call, when a block may be in hand.
-use Rattle.std.specs.Prelude.{ℕ, ◌-◌, List, [], map, get_or, slice_index_or, slice_set}
+use Rattle.std.specs.Prelude.{ℕ, ◌-◌, List, [], map, slice_index_or, slice_set}
 use Rattle.store.specs.declared.store.Store.{Store}
 use Rattle.store.specs.Bank.{Owned, Bank, owned, nothing, obtained, spared}
 
@@ -52,6 +52,6 @@ settled h l =
     record {
       hand = nothing;
       lists = slice_set h.lists l h.hand;
-      free = spared h.free (get_or h.lists l nothing).class;
+      free = spared h.free (slice_index_or h.lists l nothing).class;
       left = h.left;
     }

@@ -1,5 +1,5 @@
 -- Blocks, counted in units of four cells, and who owns each unit.
-use Rattle.std.specs.Prelude.{◌≡◌, ℕ, zero, suc, ◌+◌, ◌*◌, ◌^◌, ◌<◌, ◌≤◌, cond, List, [], ◌∷◌, map, get_or, sum_by, nat_le, slice_index, slice_index_or}
+use Rattle.std.specs.Prelude.{◌≡◌, ℕ, zero, suc, ◌+◌, ◌*◌, ◌^◌, ◌<◌, ◌≤◌, cond, List, [], ◌∷◌, map, slice_index_or, sum_by, nat_le, slice_index}
 use Rattle.store.specs.declared.parts.Head.{Head}
 use Rattle.store.specs.declared.sizes.SizeRecord.{SizeRecord}
 
@@ -58,7 +58,7 @@ abbrev pub Owns : View → Owner → ℕ → Type 0
 Owns v in_hand u = Block v.hand u
 Owns v (listed l) u = Block (slice_index_or v.heads l no_head) u
 Owns v (freed k i) u =
-    (i < (get_or v.sizes k no_record).count) × Within (walk v.links (get_or v.sizes k no_record).first i) (2 ^ k) u
+    (i < (slice_index_or v.sizes k no_record).count) × Within (walk v.links (slice_index_or v.sizes k no_record).first i) (2 ^ k) u
 Owns v untouched u = v.used ≤ u
 
 -- an owner as numbers, since a ghost field's equation is at a type made of numbers and lists

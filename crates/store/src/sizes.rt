@@ -1,4 +1,4 @@
-ghost use Rattle.std.specs.Prelude.{◌≡◌, ℕ, ◌+◌, ◌-◌, ◌*◌, ◌^◌, ◌<◌, ◌≤◌, length, get_or, replicate, slice_index_or, slice_set};
+ghost use Rattle.std.specs.Prelude.{◌≡◌, ℕ, ◌+◌, ◌-◌, ◌*◌, ◌^◌, ◌<◌, ◌≤◌, length, slice_index_or, replicate, slice_set};
 ghost use Rattle.store.specs.Units.{no_record};
 
 // The freed blocks of one size: the first one's unit, and how many there are. Each links to the next.
@@ -58,9 +58,9 @@ impl SizeTable {
     // A block of a size is freed: answers the one that it links to.
     pub(crate) fn push(&mut self, k: u32, block: u32) -> u32
         requires within { k < 29 }
-        requires few { (get_or self.old.records k no_record).count + 1 < 2 ^ 32 }
-        ensures next { result ≡ (get_or self.old.records k no_record).first }
-        ensures after { self.new.records ≡ slice_set self.old.records k (record { first = block; count = (get_or self.old.records k no_record).count + 1 }) }
+        requires few { (slice_index_or self.old.records k no_record).count + 1 < 2 ^ 32 }
+        ensures next { result ≡ (slice_index_or self.old.records k no_record).first }
+        ensures after { self.new.records ≡ slice_set self.old.records k (record { first = block; count = (slice_index_or self.old.records k no_record).count + 1 }) }
     {
         let record = &mut self.records[k as usize];
         record.push(block)
@@ -69,8 +69,8 @@ impl SizeTable {
     // The first block of a size is taken; it linked to the next.
     pub(crate) fn pop(&mut self, k: u32, next: u32)
         requires within { k < 29 }
-        requires some { 0 < (get_or self.old.records k no_record).count }
-        ensures { self.new.records ≡ slice_set self.old.records k (record { first = next; count = (get_or self.old.records k no_record).count - 1 }) }
+        requires some { 0 < (slice_index_or self.old.records k no_record).count }
+        ensures { self.new.records ≡ slice_set self.old.records k (record { first = next; count = (slice_index_or self.old.records k no_record).count - 1 }) }
     {
         let record = &mut self.records[k as usize];
         record.pop(next);

@@ -1,14 +1,14 @@
-use Rattle.std.proofs.Common.{leb, List, [], ◌∷◌, arith}
+use Rattle.std.proofs.Common.{nat_le, List, [], ◌∷◌, arith}
 use Rattle.std.proofs.lemmas.Result.{err_from_is_err_and}
 use Rattle.ir.specs.declared.entities.Type.{«Type» as Ty}
 use Rattle.ir.specs.declared.fault.PackFault.TheVariants.{Wide}
 use Rattle.model.specs.declared.fault.GraphFault.TheVariants.{Packing}
-use Rattle.model.specs.Refusals.{Row, first_of}
+use Rattle.model.specs.Refusals.{Row, first_among}
 use Rattle.results.proofs.Each.{passed, stopped, ended, first_each}
 use Rattle.results.proofs.reuse.narrow_types.Goals as goal
 
 abbrev wide : List Ty → Row
-wide ts = first_of (λ t. leb 16384 t.0) (λ t. Packing (Wide t.0)) ts
+wide ts = first_among (λ t. nat_le 16384 t.0) (λ t. Packing (Wide t.0)) ts
 
 pub returns-in_err-narrow_type : goal.returns-in_err-narrow_type
 returns-in_err-narrow_type c =
