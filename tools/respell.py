@@ -5,8 +5,10 @@ usage: python3 tools/respell.py      at the top of the repository, once, after t
 
 A name is its own if a file of specs/ or proofs/ declares it and it is no goal of the prover's. `first-fit` becomes
 `first_fit`, and `Nothing-leaks`, a fact, `NothingLeaks`. The crate `log` has the name of a library of the kit and
-becomes `command_log`. Functions of src/, strings, inputs and outputs keep their names. Names that would fall together
-with another name of the same file are printed.
+becomes `command_log`. `first_of` is a tactic, so the definition that port.py spells so becomes `first_among`. In
+definitions and contracts a word that the library has in two spellings gets the one that contracts use. Functions of
+src/, strings, inputs and outputs keep their names. Names that would fall together with another name of the same file
+are printed.
 """
 
 import os
@@ -19,6 +21,9 @@ DECLARED = re.compile(r"^\s*(?:abbrev |unfoldable )?(?:pub )?(?:abbrev |unfoldab
 DATA = re.compile(r"^\s*(?:pub )?(?:data|record) (\S+)")
 GOAL = re.compile(r": (?:goal|given|need)\.")
 CRATES = {"log": "command_log"}
+TACTICS = {"first_of": "first_among"}
+WORDS = {"get_or": "slice_index_or", "leb": "nat_le"}
+IMPORT = re.compile(r"(?m)^((?:ghost )?use [^{\n]*\{)([^}\n]*)(\};?)$")
 
 
 def files(*endings):
@@ -67,6 +72,13 @@ def turn(text, turned, pattern):
     return pattern.sub(lambda m: turned[m.group(0)], text)
 
 
+def one_spelling(text, words):
+    for old, new in words.items():
+        text = re.sub(whole(old), new, text)
+    # a word is imported once
+    return IMPORT.sub(lambda m: m.group(1) + ", ".join(dict.fromkeys(m.group(2).split(", "))) + m.group(3), text)
+
+
 def main():
     turned = {n: spelled(n) for n in declared()}
     pattern = re.compile("|".join(whole(n) for n in sorted(turned, key=len, reverse=True)))
@@ -77,7 +89,9 @@ def main():
                 print(f"look: {os.path.relpath(path, TOP)}: {name} meets {turned[name]}")
     for path in files(".antt", ".rt", ".edit"):
         text = read(path)
-        new = turn(text, turned, pattern)
+        new = one_spelling(turn(text, turned, pattern), TACTICS)
+        if "/specs/" in path or "/src/" in path:
+            new = one_spelling(new, WORDS)
         for old_crate, new_crate in CRATES.items():
             new = re.sub(r"\bRattle\.%s\." % old_crate, "Rattle.%s." % new_crate, new)
             new = re.sub(r"(?m)^(\s*(?:pub )?use )%s::" % old_crate, r"\g<1>%s::" % new_crate, new)
