@@ -23,7 +23,7 @@ impl fmt::Display for BadLine {
     }
 }
 
-// What is reported at the end shows itself by this.
+// An error has to have one; what is reported at the end is what Display writes.
 impl fmt::Debug for BadLine {
     fn fmt<W: fmt::Write>(&self, f: &mut fmt::Formatter<W>) -> fmt::Result {
         write!(f, "{self}")
