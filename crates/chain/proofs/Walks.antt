@@ -1,20 +1,17 @@
 -- Rows and cells: what a write to either leaves of the others.
 use Rattle.std.proofs.Common.{◌≡◌, ℕ, zero, suc, ◌+◌, ◌<◌, ◌≤◌, List, [], ◌∷◌, ◌++◌, map, length, get_or, take, set, sym, refl, ap, ◌∙◌, subst, inl, inr, not-suc-le-zero, arith, length-set}
 use lib.ListN.{length-map}
-use Rattle.std.proofs.lemmas.List.{get_or-take, get_or-set_same, get_or-set_other, ext_get_or, map_push, get_or_append_left, length_push, length-take-le, take_more_set}
+use Rattle.std.proofs.lemmas.List.{get_or-set_same, get_or-set_other, ext_get_or, map_push, get_or_append_left, length_push, take_more_set}
 use Rattle.std.proofs.lemmas.Bool.{cases_eq, cases_order}
 use Rattle.ir.specs.declared.entities.Value.{Value}
-use Rattle.table.specs.Table.{Table, no_value, total, with_operand, with_row}
-use Rattle.table.proofs.Held.{held, at_end, push_cases, total_push, total_with, same_held, set_held, push_held}
+use Rattle.table.specs.Table.{Table, Placed, Fits, no_value, total, with_operand}
+use Rattle.table.proofs.Held.{held, at_end, push_cases, total_push, total_with, same_held, set_held}
 use Rattle.chain.specs.declared.cell.ChainRow.{ChainRow}
 use Rattle.chain.specs.declared.cell.Link.{Link}
 use Rattle.chain.specs.declared.store.Chain.{Chain}
-use Rattle.chain.specs.Chain.{chain_mean, Placed, Fits}
+use Rattle.chain.specs.Chain.{chain_mean}
 use Rattle.chain.specs.Links.{at, no_cell, link, no_link, walked, row_of, Chained, Holds, Linked, Below, Apart}
-
-pub length_walked : (ls : List Link) (n a : ℕ) → length (walked ls n a) ≡ n
-length_walked ls zero a = refl
-length_walked ls (suc n) a = ap suc (length_walked ls n (link ls a).next)
+use Rattle.chain.proofs.Means.{cells, length_cells, length_walked, count_is, exists, cell_is, in_row}
 
 -- the cell k steps on, from the start and at the end of the walk
 abbrev hop : List Link → ℕ → ℕ → ℕ
@@ -70,13 +67,6 @@ pub record Sound (ls : List Link) (cs : List ChainRow) (used : ℕ) : Type 0 whe
   pub apart : Apart cs
   pub sums : used ≡ total (map (row_of ls) cs)
 
-module _ (s : Chain) where
-  abbrev pub cells : List ChainRow
-  cells = take s.count s.rows.now
-
-  pub length_cells : length cells ≡ s.count
-  length_cells = length-take-le s.count s.rows.now (omega (arith, s.rows_room, s.counted))
-
 -- cells that a write spares keep their list
 row_spared : (ls ms : List Link) (c : ChainRow) → Chained ls c.first c.count → ((k : ℕ) → k < c.count → link ms (c.first + k) ≡ link ls (c.first + k)) → row_of ms c ≡ row_of ls c
 row_spared ls ms c h f =
@@ -85,17 +75,17 @@ row_spared ls ms c h f =
     (λ k l. ap (λ (x : Link). x.value) (f k l) ∙ sym (walked_read ls c.first c.count k h l)))
 
 -- a write past the used cells
-module _ (s : Chain) (p : ℕ) (x : Link) (h : s.used ≤ p) where
+module _ (s : Chain) (p : ℕ) (x : Link) (h : s.extent.operand_total ≤ p) where
   abbrev written : List Link
   written = set s.links.now p x
 
   spared : (i k : ℕ) → k < (at (cells s) i).count → link written ((at (cells s) i).first + k) ≡ link s.links.now ((at (cells s) i).first + k)
   spared i k l = get_or-set_other s.links.now p ((at (cells s) i).first + k) x no_link (λ z. absurd (omega (arith, z, s.below i)))
 
-  pub past_mean : held no_cell row_of s.insts s.limit written (cells s) ≡ chain_mean s
-  past_mean = same_held no_cell row_of s.insts s.limit s.links.now written (cells s) (λ i q. row_spared s.links.now written (at (cells s) i) (s.linked i) (spared i))
+  pub past_mean : held no_cell row_of s.extent.inst_limit s.extent.operand_limit written (cells s) ≡ chain_mean s
+  past_mean = same_held no_cell row_of s.extent.inst_limit s.extent.operand_limit s.links.now written (cells s) (λ i q. row_spared s.links.now written (at (cells s) i) (s.linked i) (spared i))
 
-  pub past_sound : Sound written (cells s) s.used
+  pub past_sound : Sound written (cells s) s.extent.operand_total
   past_sound =
       record {
         linked = λ i k l. ap (λ (y : Link). y.next) (spared i k (omega arith)) ∙ s.linked i k l;
@@ -105,7 +95,7 @@ module _ (s : Chain) (p : ℕ) (x : Link) (h : s.used ≤ p) where
       }
 
 -- setting an operand
-module _ (s : Chain) (i k : ℕ) (v : Value) (P : Placed s i k) where
+module _ (s : Chain) (i k : ℕ) (v : Value) (P : Placed (chain_mean s) i k) where
   abbrev ls : List Link
   ls = s.links.now
 
@@ -122,16 +112,19 @@ module _ (s : Chain) (i k : ℕ) (v : Value) (P : Placed s i k) where
   set_link = set ls p (record { value = v; next = (link ls p).next })
 
   cell : at cs i ≡ c
-  cell = get_or-take s.count s.rows.now i no_cell P.within
+  cell = cell_is s i P.within
+
+  place : k < c.count
+  place = in_row s i P.within k P.place
 
   within : i < length cs
-  within = omega (arith, length_cells s, P.within)
+  within = omega (arith, length_cells s, exists s i P.within)
 
   chained : Chained ls c.first c.count
   chained = subst (λ (x : ChainRow). Chained ls x.first x.count) cell (s.linked i)
 
   inside : p < length ls
-  inside = omega (arith, P.place, s.used_some, s.links_room, subst (λ (x : ChainRow). x.first + x.count ≤ s.used) cell (s.below i))
+  inside = omega (arith, place, s.extent.totalled, s.links_room, subst (λ (x : ChainRow). x.first + x.count ≤ s.extent.operand_total) cell (s.below i))
 
   next_same : (q : ℕ) → (link set_link q).next ≡ (link ls q).next
   next_same q = elim (cases_eq q p) [
@@ -146,14 +139,14 @@ module _ (s : Chain) (i k : ℕ) (v : Value) (P : Placed s i k) where
       walked_is set_link c.first c.count (set os k v) (λ m l. next_same (c.first + m) ∙ chained m l) (length-set os k v ∙ len)
       (λ m l. elim (cases_eq m k) [
         | inl e ↦ ap (λ (x : ℕ). (link set_link (c.first + x)).value) e ∙ ap (λ (x : Link). x.value) (get_or-set_same ls p _ no_link inside)
-            ∙ sym (ap (λ (x : ℕ). get_or (set os k v) x no_value) e ∙ get_or-set_same os k v no_value (omega (arith, P.place)))
+            ∙ sym (ap (λ (x : ℕ). get_or (set os k v) x no_value) e ∙ get_or-set_same os k v no_value (omega (arith, place)))
         | inr ne ↦ ap (λ (x : Link). x.value) (get_or-set_other ls p (c.first + m) _ no_link (λ z. ne (omega arith)))
             ∙ sym (get_or-set_other os k m v no_value ne ∙ walked_read ls c.first c.count m chained l)
       ])
 
-  pub set_mean : held no_cell row_of s.insts s.limit set_link cs ≡ with_operand (held no_cell row_of s.insts s.limit ls cs) i k v
+  pub set_mean : held no_cell row_of s.extent.inst_limit s.extent.operand_limit set_link cs ≡ with_operand (held no_cell row_of s.extent.inst_limit s.extent.operand_limit ls cs) i k v
   set_mean =
-      set_held no_cell row_of s.insts s.limit ls set_link cs i k v within
+      set_held no_cell row_of s.extent.inst_limit s.extent.operand_limit ls set_link cs i k v within
       (ap (row_of set_link) cell ∙ ap (λ (os : List Value). record { opcode = c.opcode; operands = os }) own
       ∙ ap (λ (x : ChainRow). record { opcode = x.opcode; operands = set (walked ls x.count x.first) k v }) (sym cell))
       (λ m q ne. row_spared ls set_link (at cs m) (s.linked m) (λ l r.
@@ -163,36 +156,33 @@ module _ (s : Chain) (i k : ℕ) (v : Value) (P : Placed s i k) where
       elim (cases_order m i) [
         | inl o ↦ ne o
         | inr w ↦ elim w [
-          | inl o ↦ absurd (omega (arith, P.place, z, e, f, s.apart (record { one = m; two = i; less = o; within = within })))
-          | inr o ↦ absurd (omega (arith, P.place, z, e, f, s.apart (record { one = i; two = m; less = o; within = q })))
+          | inl o ↦ absurd (omega (arith, place, z, e, f, s.apart (record { one = m; two = i; less = o; within = within })))
+          | inr o ↦ absurd (omega (arith, place, z, e, f, s.apart (record { one = i; two = m; less = o; within = q })))
         ]
       ])))
 
-  pub set_sound : Sound set_link cs s.used
+  pub set_sound : Sound set_link cs s.extent.operand_total
   set_sound =
       record {
         linked = λ m l r. next_same ((at cs m).first + l) ∙ s.linked m l r;
         below = s.below;
         apart = s.apart;
-        sums = s.sums ∙ sym (total_with (held no_cell row_of s.insts s.limit ls cs) i k v (simp length-map within)) ∙ ap (λ (t : Table). total t.rows) (sym set_mean);
+        sums = s.sums ∙ sym (total_with (held no_cell row_of s.extent.inst_limit s.extent.operand_limit ls cs) i k v (simp length-map within)) ∙ ap (λ (t : Table). total t.rows) (sym set_mean);
       }
 
 -- one row more, whose cells lie from the mark on
-module _ (s : Chain) (c : ChainRow) (F : Fits s c.count) where
-  room_for_row : s.count < length s.rows.now
-  room_for_row = omega (arith, F.inst, s.rows_room)
+module _ (s : Chain) (c : ChainRow) (F : Fits (chain_mean s) c.count) where
+  room_for_row : s.extent.count < length s.rows.now
+  room_for_row = omega (arith, F.inst, s.rows_room, count_is s)
 
-  pub push_mean : held no_cell row_of s.insts s.limit s.links.now (take (s.count + 1) (set s.rows.now s.count c)) ≡ with_row (chain_mean s) (row_of s.links.now c)
-  push_mean = push_held no_cell row_of s.insts s.limit s.links.now s.rows.now s.count c room_for_row
-
-  pub push_sound : c.first ≡ s.used → Chained s.links.now s.used c.count → Sound s.links.now (take (s.count + 1) (set s.rows.now s.count c)) (s.used + c.count)
+  pub push_sound : c.first ≡ s.extent.operand_total → Chained s.links.now c.first c.count → Sound s.links.now (take (s.extent.count + 1) (set s.rows.now s.extent.count c)) (s.extent.operand_total + c.count)
   push_sound f chained =
       let ls : List Link = s.links.now in
       let cs : List ChainRow = cells s in
       let ds : List ChainRow = cs ++ c ∷ [] in
-      let T : Sound ls ds (s.used + c.count) = record {
-        linked = push_cases no_cell (λ x. Chained ls x.first x.count) cs c s.linked (subst (λ (a : ℕ). Chained ls a c.count) (sym f) chained) (λ k l. absurd (omega arith));
-        below = push_cases no_cell (λ x. x.first + x.count ≤ s.used + c.count) cs c (λ i. omega (arith, s.below i)) (omega (arith, f)) (omega arith);
+      let T : Sound ls ds (s.extent.operand_total + c.count) = record {
+        linked = push_cases no_cell (λ x. Chained ls x.first x.count) cs c s.linked chained (λ k l. absurd (omega arith));
+        below = push_cases no_cell (λ x. x.first + x.count ≤ s.extent.operand_total + c.count) cs c (λ i. omega (arith, s.below i)) (omega (arith, f)) (omega arith);
         apart = λ p. elim (at_end no_cell cs c p.two) [
           | inl q ↦
               let one : at ds p.one ≡ at cs p.one = get_or_append_left cs (c ∷ []) no_cell p.one (omega (arith, p.less, q.0)) in
@@ -206,4 +196,4 @@ module _ (s : Chain) (c : ChainRow) (F : Fits s c.count) where
         ];
         sums = sym (ap total (map_push (row_of ls) cs c) ∙ total_push (map (row_of ls) cs) (row_of ls c) ∙ omega (arith, s.sums, length_walked ls c.count c.first));
       } in
-      subst (λ (x : List ChainRow). Sound ls x (s.used + c.count)) (sym (take_more_set s.rows.now s.count c room_for_row)) T
+      subst (λ (x : List ChainRow). Sound ls x (s.extent.operand_total + c.count)) (sym (take_more_set s.rows.now s.extent.count c room_for_row)) T

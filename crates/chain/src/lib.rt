@@ -1,5 +1,5 @@
 #![tactic(auto)]
 
 pub mod cell;
-pub mod inst_table;
+pub mod storage;
 pub mod store;

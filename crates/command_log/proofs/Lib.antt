@@ -1,3 +1,1 @@
-mod Keywords
-mod Lines
 mod Spelling

@@ -1,5 +1,5 @@
 -- A number is read from no other text than the one that it is written as.
-use Rattle.std.proofs.Common.{◌≡◌, ℕ, ◌+◌, ◌^◌, ◌<◌, true, false, eqb, List, [], ◌∷◌, length, get_or, Some, None, Ok, Err, decimal, Result, sym, refl, ap, ◌∙◌, subst, inl, inr, arith}
+use Rattle.std.proofs.Common.{◌≡◌, ℕ, ◌^◌, ◌<◌, true, false, List, length, get_or, Some, None, Ok, Err, decimal, Result, sym, ap, ◌∙◌, subst, inl, inr, arith}
 use Rattle.std.specs.Result.{OkIff, result_ok}
 use Rattle.std.specs.Str.Parse.{AllDigits, ParsesUnsigned, digits_value}
 use Rattle.std.specs.Int.{IsInRange}
@@ -35,9 +35,7 @@ read_bare w r h p = by r (parse_plain own 32 w r h (let q = p in grind (arith, n
     by (Ok x) k = (omega (arith, k.0.2), sym (ap decimal k.1 ∙ decimal-digits_value own w k.0.0 k.0.1 (λ z. let q = p in let some = k.0.1 in grind (arith, nat_tests)) (omega (arith, k.0.2))))
     by (Err e) k = λ n lt same. let big : n < 2 ^ 64 = omega arith in k (subst (AllDigits 10) (sym same) (digits_decimal own n big), subst (λ (l : List ℕ). 0 < length l) (sym same) (decimal_nonempty n big), omega (arith, ap (digits_value 10) same, digits_value-decimal own n big))
 
-pub none_above : (w : List ℕ) (m n : ℕ) → m < 4294967296 → m < n + 1 → Numbers 4294967296 w (Some n) → Numbers m w None
-none_above w m n small above is k lt e = let same = decimal_injective n k (omega (arith, is.0)) (omega arith) (sym is.1 ∙ e) in omega arith
-
-pub padded_empty : (w : List ℕ) → eqb (length w) 0 ≡ true → padded w ≡ false
-padded_empty [] h = refl
-padded_empty (c ∷ cs) h = absurd (grind (arith, nat_tests))
+-- a number of 32 bits as one of 16
+pub narrowed : {E : Type 0} (w : List ℕ) (n : ℕ) (r : Result ℕ E) → Numbers 4294967296 w (Some n) → OkIff r (n < 65536) n → Numbers 65536 w (result_ok r)
+narrowed w n (Ok x) is k = (omega (arith, k.0, k.1), is.1 ∙ ap decimal (sym k.1))
+narrowed w n (Err e) is k = λ m lt same. let e : n ≡ m = decimal_injective n m (omega (arith, is.0)) (omega arith) (sym is.1 ∙ same) in k (omega arith)

@@ -11,12 +11,21 @@ use Rattle.command_log.specs.declared.command.Command.{Command}
 use Rattle.command_log.specs.declared.command.Command.TheVariants.{Pack, Unpack, Encode, Decode}
 use Rattle.command_log.specs.declared.expected.Expected.{Expected}
 use Rattle.command_log.specs.declared.expected.Expected.TheVariants as ex
-use Rattle.command_log.specs.Writing.{Words}
+use Rattle.ir.specs.Writing.{Words}
 
 -- r is what the text w writes, if it writes anything
 abbrev pub Reads : {A W : Type 0} → (A → W) → (A → Type 0) → W → Option A → Type 0
 Reads written Fits w (Some a) = Fits a × (w ≡ written a)
 Reads written Fits w None = (a : _) → Fits a → w ≢ written a
+
+-- the same of two values and of three
+abbrev pub ReadsTwo : {A B W : Type 0} → (A → B → W) → (A → B → Type 0) → W → Option (A × B) → Type 0
+ReadsTwo written Fits w (Some p) = Fits p.0 p.1 × (w ≡ written p.0 p.1)
+ReadsTwo written Fits w None = (a : _) (b : _) → Fits a b → w ≢ written a b
+
+abbrev pub ReadsThree : {A B C W : Type 0} → (A → B → C → W) → (A → B → C → Type 0) → W → Option (A × (B × C)) → Type 0
+ReadsThree written Fits w (Some p) = Fits p.0 p.1.0 p.1.1 × (w ≡ written p.0 p.1.0 p.1.1)
+ReadsThree written Fits w None = (a : _) (b : _) (c : _) → Fits a b c → w ≢ written a b c
 
 abbrev pub Numbers : ℕ → List ℕ → Option ℕ → Type 0
 Numbers m = Reads decimal (λ n. n < m)

@@ -1,7 +1,7 @@
 use std::fmt;
 
 // What a line that is no command should have been.
-#[derive(Clone, Copy, PartialEq, Eq)]
+#[derive(Clone, Copy, Debug, PartialEq, Eq)]
 pub enum Expected {
     Command,
     Pack,

@@ -1,8 +1,8 @@
 ghost use Rattle.std.specs.Prelude.{◌≡◌};
-ghost use Rattle.command_log.specs.Running.{outcome, accepted};
+ghost use Rattle.command_log.specs.Running.{outcome};
 
 use crate::command::Command;
-use crate::outcome::Outcome;
+use crate::outcome::{Answer, Outcome};
 use ir::block_arg::BlockArg;
 
 impl Command {
@@ -10,35 +10,11 @@ impl Command {
     pub fn run(self) -> Outcome
         ensures { result ≡ outcome self }
     {
-        match self {
-            Command::Pack(data) => match data.pack() {
-                Ok(packed) => Outcome::Packed(packed),
-                Err(fault) => Outcome::Refused(fault),
-            },
-            Command::Unpack(packed) => match packed.unpack() {
-                Ok(data) => Outcome::Unpacked(data),
-                Err(fault) => Outcome::Refused(fault),
-            },
-            Command::Encode(arg) => match arg.encode() {
-                Ok(word) => Outcome::Encoded(word),
-                Err(fault) => Outcome::Refused(fault),
-            },
-            Command::Decode(word) => match BlockArg::decode(word) {
-                Ok(arg) => Outcome::Decoded(arg),
-                Err(fault) => Outcome::Refused(fault),
-            },
-        }
-    }
-}
-
-impl Outcome {
-    // Whether the command was accepted.
-    pub fn is_accepted(self) -> bool
-        ensures { result ≡ accepted self }
-    {
-        match self {
-            Outcome::Refused(_) => false,
-            _ => true,
-        }
+        Ok(match self {
+            Command::Pack(data) => Answer::Packed(data.pack()?),
+            Command::Unpack(packed) => Answer::Unpacked(packed.unpack()?),
+            Command::Encode(arg) => Answer::Encoded(arg.encode()?),
+            Command::Decode(word) => Answer::Decoded(BlockArg::decode(word)?),
+        })
     }
 }

@@ -1,11 +1,9 @@
 -- A new graph by the lengths of the memory that it is lent.
-use Rattle.std.specs.Prelude.{ℕ, ◌-◌, ◌/◌, min, [], length, replicate}
+use Rattle.std.specs.Prelude.{ℕ, ◌-◌, ◌/◌, min, [], length, replicate, None}
 use Rattle.store.specs.Bank.{Bank, fresh, usable}
-use Rattle.model.specs.declared.labels.Label.TheVariants.{Absent}
 use Rattle.model.specs.State.{Graph}
-use Rattle.ir.specs.declared.entities.Value.{Value}
-use Rattle.model.specs.declared.labels.Start.{Start}
-use Rattle.defs.specs.declared.memory.ListMemory.{ListMemory}
+use Rattle.store.specs.declared.parts.ListMemory.{ListMemory}
+use Rattle.defs.specs.declared.memory.GraphMemory.{GraphMemory}
 
 -- as many values as there are definitions, labels and lists of starts
 abbrev pub most_values : ℕ → ℕ → ℕ → ℕ
@@ -22,19 +20,19 @@ most_insts heads blocks = min ((min heads 4294967296 - most_blocks heads blocks)
 abbrev pub empty_lists : {T : Type 0} → ListMemory T → Bank T
 empty_lists m = fresh (min (length m.heads.now) 4294967296) (usable (length m.cells.now) (length m.chains.now))
 
-abbrev pub opened : ℕ → ℕ → ListMemory Value → ListMemory Start → ℕ → Graph
-opened values labels words starts blocks =
+abbrev pub opened : GraphMemory → ℕ → Graph
+opened m blocks =
     record {
       defs = [];
       blocks = 0;
       insts = 0;
-      words = empty_lists words;
-      labels = replicate (most_values values labels (length starts.heads.now)) Absent;
-      starts = empty_lists starts;
+      words = empty_lists m.words;
+      labels = replicate (most_values (length m.values.now) (length m.labels.now) (length m.starts.heads.now)) None;
+      starts = empty_lists m.starts;
       limits =
           record {
-            values = most_values values labels (length starts.heads.now);
-            blocks = most_blocks (length words.heads.now) blocks;
-            insts = most_insts (length words.heads.now) blocks;
+            values = most_values (length m.values.now) (length m.labels.now) (length m.starts.heads.now);
+            blocks = most_blocks (length m.words.heads.now) blocks;
+            insts = most_insts (length m.words.heads.now) blocks;
           };
     }

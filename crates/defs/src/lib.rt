@@ -1,7 +1,9 @@
 #![tactic(auto)]
 
-// The graph's data in lent memory, plain, with the steps that edits are made of. The crates above hold it sound.
+// The graph's data in lent memory, sound by its type, with the rows that edits are judged by and the steps that they
+// are made of.
 pub mod judges;
+pub mod lists;
 pub mod memory;
 pub mod open;
 pub mod state;

@@ -1,9 +1,13 @@
-use store::parts::Head;
+use ir::entities::Value;
+use ir::value_data::ValueDataPacked;
+use model::labels::{Label, Start};
+use store::parts::ListMemory;
 
-// The memory of a pool: cells, a chain word for every four of them, and a head for each list.
+// What a graph is lent: definitions and labels, one of each for a value, and the memory of its two pools.
 #[derive(Drop)]
-pub struct ListMemory<'a, T> {
-    pub cells: &'a mut [T],
-    pub chains: &'a mut [u32],
-    pub heads: &'a mut [Head],
+pub struct GraphMemory<'a> {
+    pub values: &'a mut [ValueDataPacked],
+    pub labels: &'a mut [Option<Label>],
+    pub words: ListMemory<'a, Value>,
+    pub starts: ListMemory<'a, Start>,
 }

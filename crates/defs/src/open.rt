@@ -1,24 +1,15 @@
 // A new graph's data, for the crate above alone.
 ghost use Rattle.std.specs.Prelude.{◌≡◌, ◌-◌, ◌/◌, min, length, replicate};
-ghost use Rattle.model.specs.declared.labels.Label.TheVariants.{Absent};
-ghost use Rattle.defs.specs.Graphs.{Sound, graph_of};
+ghost use Rattle.defs.specs.Graphs.{graph_of};
 ghost use Rattle.defs.specs.Opening.{most_blocks, most_insts, opened};
 
-use crate::memory::ListMemory;
+use crate::memory::GraphMemory;
 use crate::state::Defs;
 use ir::entities::Value;
 use ir::value_data::ValueDataPacked;
 use model::labels::{Label, Start};
 use store::store::Store;
 use values::table::ValueTable;
-
-fn wipe(labels: &mut [Label])
-    ensures { labels.new ≡ replicate (length labels.old) Absent }
-{
-    for label in labels.iter_mut() {
-        *label = Label::Absent;
-    }
-}
 
 // How many blocks and instructions there may be, of so many lists.
 fn limits(lists: usize, blocks: u32) -> (u32, u32)
@@ -33,32 +24,22 @@ fn limits(lists: usize, blocks: u32) -> (u32, u32)
 
 impl<'a> Defs<'a> {
     // No value, no block and no instruction.
-    pub fn new(
-        values: &'a mut [ValueDataPacked],
-        labels: &'a mut [Label],
-        words: ListMemory<'a, Value>,
-        starts: ListMemory<'a, Start>,
-        blocks: u32,
-    ) -> Self
-        ensures sound { Sound result }
-        ensures holds { graph_of result ≡ opened (length values.old) (length labels.old) words.entry starts.entry blocks }
+    #[tactic(auto, using(crate::proofs::Words::opening))]
+    pub fn new(memory: GraphMemory<'a>, blocks: u32) -> Self
+        ensures { graph_of result ≡ opened memory.entry blocks }
     {
-        let ListMemory {
-            cells,
-            chains,
-            heads,
-        } = words;
-        let (block_limit, inst_limit) = limits(heads.len(), blocks);
-        let words = Store::new(cells, chains, heads);
-        let ListMemory {
-            cells,
-            chains,
-            heads,
-        } = starts;
-        let values = ValueTable::new(values, labels.len().min(heads.len()));
-        let starts = Store::new(cells, chains, heads);
-        let labels = &mut labels[0..values.limit as usize];
-        wipe(labels);
+        let GraphMemory {
+            values,
+            labels,
+            words,
+            starts,
+        } = memory;
+        let (block_limit, inst_limit) = limits(words.heads.len(), blocks);
+        let values = ValueTable::new(values, labels.len().min(starts.heads.len()));
+        let words = Store::new(words);
+        let starts = Store::new(starts);
+        let labels = &mut labels[..values.limit as usize];
+        labels.fill(None);
         Defs {
             values,
             words,

@@ -1,5 +1,7 @@
+#![tactic(auto, using(crate::proofs::Words::counts, crate::proofs::Words::holds_past))]
 // The steps that edits are made of: one change of a definition or of a list each, of which nothing can fail once the
-// edit was judged. They are public for the crates above alone, which hold the data sound.
+// edit was judged. They are public for the crates above alone. That a list or a place exists stays a clause: a number
+// does not say of which data.
 ghost use Rattle.std.specs.Prelude.{◌≡◌, ◌+◌, ◌*◌, ◌<◌, ◌≤◌, not, [], ◌∷◌, ◌++◌, length, None, slice_set};
 ghost use Rattle.store.specs.Bank.{changed, cleared, copied, fault_copy, fault_push, fault_write, holding, items_of, obtained, pushed, removed_at, swap_removed_at, written};
 ghost use Rattle.store.specs.Units.{smallest};
@@ -9,8 +11,9 @@ ghost use Rattle.model.specs.State.{attached, holds, value};
 ghost use Rattle.model.specs.Edits.{values_full, with_defs, with_words};
 ghost use Rattle.model.specs.declared.fault.GraphFault.TheVariants.{Loose, Attached};
 ghost use Rattle.model.specs.Refusals.{when};
-ghost use Rattle.defs.specs.Graphs.{Sound, graph_of, judged};
+ghost use Rattle.defs.specs.Graphs.{graph_of, judged};
 
+use crate::judges::refuse_when;
 use crate::state::Defs;
 use ir::entities::Value;
 use ir::value_data::ValueData;
@@ -19,10 +22,8 @@ use model::fault::GraphFault;
 impl<'a> Defs<'a> {
     // A new value.
     pub fn define(&mut self, data: ValueData) -> Value
-        requires sound { Sound self.old }
         requires narrow { Narrow «data» }
         requires room { values_full (graph_of self.old) 1 ≡ None }
-        ensures sound { Sound self.new }
         ensures says { result ≡ value (length (graph_of self.old).defs) }
         ensures holds { graph_of self.new ≡ with_defs (graph_of self.old) ((graph_of self.old).defs ++ «data» ∷ []) }
     {
@@ -31,10 +32,8 @@ impl<'a> Defs<'a> {
 
     // Another definition of a value.
     pub fn redefine(&mut self, v: Value, data: ValueData)
-        requires sound { Sound self.old }
         requires narrow { Narrow «data» }
         requires known { Exists (graph_of self.old).defs v }
-        ensures sound { Sound self.new }
         ensures holds { graph_of self.new ≡ with_defs (graph_of self.old) (slice_set (graph_of self.old).defs v.0 «data») }
     {
         self.values.write(v, data);
@@ -42,9 +41,7 @@ impl<'a> Defs<'a> {
 
     // One word more in a list.
     pub fn push_word(&mut self, list: u32, word: Value)
-        requires sound { Sound self.old }
         requires fits { fault_push (graph_of self.old).words list ≡ None }
-        ensures sound { Sound self.new }
         ensures holds { graph_of self.new ≡ with_words (graph_of self.old) (pushed (graph_of self.old).words list word) }
     {
         self.words.append(list, word);
@@ -52,10 +49,8 @@ impl<'a> Defs<'a> {
 
     // Another word at a place of a list.
     pub fn set_word(&mut self, list: u32, place: u32, word: Value)
-        requires sound { Sound self.old }
         requires within { list < length (graph_of self.old).words.lists }
         requires below { place < length (items_of (graph_of self.old).words list) }
-        ensures sound { Sound self.new }
         ensures holds { graph_of self.new ≡ with_words (graph_of self.old) (changed (graph_of self.old).words list place word) }
     {
         self.words.set_item(list, place, word);
@@ -63,10 +58,8 @@ impl<'a> Defs<'a> {
 
     // A word taken out of a list, and the gap closed.
     pub fn remove_word(&mut self, list: u32, place: u32)
-        requires sound { Sound self.old }
         requires within { list < length (graph_of self.old).words.lists }
         requires below { place < length (items_of (graph_of self.old).words list) }
-        ensures sound { Sound self.new }
         ensures holds { graph_of self.new ≡ with_words (graph_of self.old) (removed_at (graph_of self.old).words list place) }
     {
         self.words.remove_item(list, place);
@@ -74,10 +67,8 @@ impl<'a> Defs<'a> {
 
     // The last word of a list put in the place of another.
     pub fn swap_remove_word(&mut self, list: u32, place: u32)
-        requires sound { Sound self.old }
         requires within { list < length (graph_of self.old).words.lists }
         requires below { place < length (items_of (graph_of self.old).words list) }
-        ensures sound { Sound self.new }
         ensures holds { graph_of self.new ≡ with_words (graph_of self.old) (swap_removed_at (graph_of self.old).words list place) }
     {
         self.words.swap_remove_item(list, place);
@@ -85,9 +76,7 @@ impl<'a> Defs<'a> {
 
     // A list emptied.
     pub fn clear_list(&mut self, list: u32)
-        requires sound { Sound self.old }
         requires within { list < length (graph_of self.old).words.lists }
-        ensures sound { Sound self.new }
         ensures holds { graph_of self.new ≡ with_words (graph_of self.old) (cleared (graph_of self.old).words list) }
     {
         self.words.clear(list);
@@ -95,9 +84,7 @@ impl<'a> Defs<'a> {
 
     // A list written anew.
     pub fn write_list(&mut self, list: u32, words: &[Value])
-        requires sound { Sound self.old }
         requires fits { fault_write (graph_of self.old).words list (length words.now) ≡ None }
-        ensures sound { Sound self.new }
         ensures holds { graph_of self.new ≡ with_words (graph_of self.old) (written (graph_of self.old).words list words.now) }
     {
         self.words.write(list, words);
@@ -105,9 +92,7 @@ impl<'a> Defs<'a> {
 
     // A list copied to another.
     pub fn copy_list(&mut self, from: u32, to: u32)
-        requires sound { Sound self.old }
         requires fits { fault_copy (graph_of self.old).words from to ≡ None }
-        ensures sound { Sound self.new }
         ensures holds { graph_of self.new ≡ with_words (graph_of self.old) (copied (graph_of self.old).words from to) }
     {
         self.words.copy(from, to);
@@ -115,7 +100,6 @@ impl<'a> Defs<'a> {
 
     // Whether a list holds a value at a place.
     fn list_holds(&self, list: u64, place: u32, v: Value) -> bool
-        requires { Sound self.now }
         ensures { result ≡ holds (items_of (graph_of self.now).words list) place v }
     {
         if list >= self.words.count() as u64 {
@@ -124,12 +108,11 @@ impl<'a> Defs<'a> {
         if place >= self.words.len(list as u32) {
             return false;
         }
-        self.words.item(list as u32, place).0 == v.0
+        self.words.item(list as u32, place) == v
     }
 
     // Whether the list of its instruction or block holds a value at its number.
     pub fn is_attached(&self, v: Value) -> bool
-        requires { Sound self.now }
         ensures { result ≡ attached (graph_of self.now) v }
     {
         match self.values.read(v) {
@@ -146,31 +129,21 @@ impl<'a> Defs<'a> {
 
     // A value must be attached.
     pub fn attached_value(&self, v: Value) -> Result<(), GraphFault>
-        requires { Sound self.now }
         ensures { result ≡ judged (when (not (attached (graph_of self.now) v)) (Loose v.0)) }
     {
-        if !self.is_attached(v) {
-            return Err(GraphFault::Loose(v.0));
-        }
-        Ok(())
+        refuse_when(!self.is_attached(v), GraphFault::Loose(v.0))
     }
 
     // A value must not be attached.
     pub fn loose_value(&self, v: Value) -> Result<(), GraphFault>
-        requires { Sound self.now }
         ensures { result ≡ judged (when (attached (graph_of self.now) v) (Attached v.0)) }
     {
-        if self.is_attached(v) {
-            return Err(GraphFault::Attached(v.0));
-        }
-        Ok(())
+        refuse_when(self.is_attached(v), GraphFault::Attached(v.0))
     }
 
     // A list written anew, with no word yet, in the block that n words take.
     pub fn reserve_list(&mut self, list: u32, n: usize)
-        requires sound { Sound self.old }
         requires fits { fault_write (graph_of self.old).words list n ≡ None }
-        ensures sound { Sound self.new }
         ensures holds { graph_of self.new ≡ with_words (graph_of self.old) (holding (obtained (cleared (graph_of self.old).words list) (smallest n)) list [] (smallest n)) }
     {
         self.words.reserve(list, n);

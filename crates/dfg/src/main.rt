@@ -4,33 +4,18 @@
 use command_log::command::Command;
 use command_log::counts::Counts;
 use command_log::expected::Expected;
+use command_log::outcome::Line;
 use command_log::reading::command_of;
-use std::fmt;
 use std::io::{BufRead, BufReader};
+use thiserror::Error;
 
 // A line that is no command, and what it should have been.
-#[derive(Drop)]
+#[derive(Debug, Drop, Error)]
+#[error("line {line}: expected {expected}")]
 struct BadLine {
-    line: u64,
+    line: usize,
     expected: Expected,
 }
-
-impl fmt::Display for BadLine {
-    fn fmt<W: fmt::Write>(&self, f: &mut fmt::Formatter<W>) -> fmt::Result {
-        let line = self.line;
-        let expected = self.expected;
-        write!(f, "line {line}: expected {expected}")
-    }
-}
-
-// An error has to have one; what is reported at the end is what Display writes.
-impl fmt::Debug for BadLine {
-    fn fmt<W: fmt::Write>(&self, f: &mut fmt::Formatter<W>) -> fmt::Result {
-        write!(f, "{self}")
-    }
-}
-
-impl std::error::Error for BadLine {}
 
 // Blank lines and remarks say nothing.
 fn says_nothing(words: &[&str]) -> bool {
@@ -43,18 +28,18 @@ fn says_nothing(words: &[&str]) -> bool {
 // The whole log, so that nothing runs where a line of it is no command.
 fn read_log(rt: &HostRuntime) -> anyhow::Result<Vec<Command>> {
     let mut commands = Vec::new(rt.alloc());
-    let mut line = 0u64;
-    for text in BufReader::new(rt.alloc(), rt.stdin())?.lines(rt.alloc()) {
+    for (index, text) in BufReader::new(rt.alloc(), rt.stdin())?
+        .lines(rt.alloc())
+        .enumerate()
+    {
         let text = text?;
-        line = line.saturating_add(1);
+        let line = index.saturating_add(1);
         let words: Vec<&str> = text.as_str().split_whitespace().collect(rt.alloc())?;
         if says_nothing(words.as_slice()) {
             continue;
         }
-        match command_of(words.as_slice()) {
-            Ok(command) => commands.push(command)?,
-            Err(expected) => return Err(BadLine { line, expected }.into()),
-        }
+        let command = command_of(words.as_slice()).map_err(|expected| BadLine { line, expected })?;
+        commands.push(command)?;
     }
     Ok(commands)
 }
@@ -62,9 +47,9 @@ fn read_log(rt: &HostRuntime) -> anyhow::Result<Vec<Command>> {
 fn work(rt: &HostRuntime) -> anyhow::Result<()> {
     let commands = read_log(rt)?;
     let mut outcomes = Vec::new(rt.alloc());
-    for command in commands.iter() {
+    for &command in commands.iter() {
         let outcome = command.run();
-        println!(rt; "{command} => {outcome}")?;
+        rt.println(Line { command, outcome })?;
         outcomes.push(outcome)?;
     }
     rt.println(Counts::of(outcomes.as_slice()))?;

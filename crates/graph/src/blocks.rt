@@ -5,25 +5,17 @@ ghost use Rattle.defs.specs.Graphs.{Kept, graph_of};
 ghost use Rattle.defs.specs.Opening.{opened};
 
 use crate::graph::DataFlowGraph;
-use defs::memory::ListMemory;
+use defs::memory::GraphMemory;
 use defs::state::Defs;
-use ir::entities::{Block, Value};
-use ir::value_data::ValueDataPacked;
+use ir::entities::Block;
 use model::fault::GraphFault;
-use model::labels::{Label, Start};
 
 impl<'a> DataFlowGraph<'a> {
     // A new graph in lent memory: it is empty, with the limits that the memory gives, and at most so many blocks.
-    pub fn new(
-        values: &'a mut [ValueDataPacked],
-        labels: &'a mut [Label],
-        words: ListMemory<'a, Value>,
-        starts: ListMemory<'a, Start>,
-        blocks: u32,
-    ) -> Self
-        ensures { graph_of result.defs ≡ opened (length values.old) (length labels.old) words.entry starts.entry blocks }
+    pub fn new(memory: GraphMemory<'a>, blocks: u32) -> Self
+        ensures { graph_of result.defs ≡ opened memory.entry blocks }
     {
-        let defs = Defs::new(values, labels, words, starts, blocks);
+        let defs = Defs::new(memory, blocks);
         DataFlowGraph { defs }
     }
 

@@ -1,6 +1,7 @@
 #![tactic(auto)]
 
-// The graph that users hold, in memory that they lend. Every value of it is sound, so its calls ask nothing.
+// The graph that users hold, in memory that they lend. Its calls ask nothing and hand on, so that each edit is proved in
+// a crate of its own.
 pub mod blocks;
 pub mod graph;
 pub mod inst_edits;

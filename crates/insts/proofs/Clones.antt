@@ -1,13 +1,13 @@
 -- Results of a new instruction, made one after another in the places of a copy of another's.
 use Rattle.std.proofs.Common.{◌≡◌, ℕ, suc, ◌+◌, ◌<◌, ◌≤◌, List, [], ◌∷◌, ◌++◌, map, length, get_or, take, drop, set, None, sym, refl, ap, ◌∙◌, append_assoc, append-nil, arith}
-use Rattle.std.proofs.lemmas.List.{drop_all, drop_more, get_or_at, get_or-map, get_or_past, get_or-set_same, get_or-take, length-append, length-drop, length-map, length_push, length-take, length-take-le, set_at, set-set, take_all, take_at, take_more}
+use Rattle.std.proofs.lemmas.List.{drop_all, drop_more, get_or_at, get_or-map, get_or-set_same, length-append, length-drop, length-map, length_push, length-take-le, set_at, set-set, take_all, take_at, take_more}
 use Rattle.std.proofs.lemmas.Bool.{le-ltb}
 use Rattle.ir.specs.declared.entities.Value.{Value}
 use Rattle.ir.specs.declared.entities.Inst.{Inst as InstId}
 use Rattle.ir.specs.declared.entities.Type.{«Type» as Ty}
 use Rattle.ir.specs.declared.value_data.ValueData.{ValueData}
 use Rattle.ir.specs.declared.value_data.ValueData.TheVariants.{Inst}
-use Rattle.ir.specs.Packing.{retired_mark, type}
+use Rattle.ir.specs.Packing.{type}
 use Rattle.store.specs.Units.{smallest}
 use Rattle.store.proofs.Acts.{held_same}
 use Rattle.store.specs.Bank.{Bank, Owned, changed, class_of, cleared, holding, items_of, nothing, obtained, written}
@@ -16,7 +16,7 @@ use Rattle.model.specs.State.{Graph, no_value, result_list, value}
 use Rattle.model.specs.Edits.{defined, result_types, seated, seats, values_full, with_defs, with_results, with_words}
 use Rattle.model.proofs.Banks.{cleared_only, holding_only, obtained_lists, written_only}
 use Rattle.defs.specs.declared.state.Defs.{Defs}
-use Rattle.defs.specs.Graphs.{Sound, graph_of}
+use Rattle.defs.specs.Graphs.{graph_of}
 use Rattle.insts.specs.Renewing.{renewed}
 
 -- the definitions of results of i from place k on
@@ -79,13 +79,6 @@ written_held b l xs ys h e =
     (get_or-set_same c.lists l (own xs (smallest (length xs))) nothing (omega arith))
     ∙ (ap (relisted c) (set-set c.lists l (own xs (smallest (length xs))) (own ys (smallest (length xs))))
     ∙ ap (λ (m : ℕ). relisted (obtained (cleared b l) (smallest m)) (set (obtained (cleared b l) (smallest m)).lists l (own ys (smallest m)))) (sym e))
-
--- the type of one of the first n values, and of another
-pub type_within : (ds : List ValueData) (n : ℕ) (v : Value) → v.0 < n → type (at ds v) ≡ type (at (take n ds) v)
-type_within ds n v h = sym (ap type (get_or-take n ds v.0 retired_mark h))
-
-pub type_past : (ds : List ValueData) (n : ℕ) (v : Value) → n ≤ v.0 → type retired_mark ≡ type (at (take n ds) v)
-type_past ds n v h = let e = length-take n ds in sym (ap type (get_or_past (take n ds) v.0 retired_mark (omega arith)))
 
 -- new results of those types, written to list l
 abbrev with_results_at : Graph → InstId → ℕ → List Ty → Graph
@@ -174,14 +167,12 @@ renewing g new l k =
     (holding g.words l (made_words g.defs (items_of g.words l) k) (class_of g.words l))
 
 pub record Renewing (g : Graph) (new : InstId) (l k : ℕ) (d : Defs) : Type 0 where
-  pub sound : Sound d
   pub same : graph_of d ≡ renewing g new l k
 
-pub renew_starts : (d : Defs) (new : InstId) (l : ℕ) → Sound d → Renewing (graph_of d) new l 0 d
-renew_starts d new l s =
+pub renew_starts : (d : Defs) (new : InstId) (l : ℕ) → Renewing (graph_of d) new l 0 d
+renew_starts d new l =
     let g : Graph = graph_of d in
     record {
-      sound = s;
       same =
           ap (λ (xs : List ValueData). with_words (with_defs g xs) g.words) (sym (append-nil g.defs))
           ∙ ap (λ (b : Bank Value). with_words (with_defs g (made_defs g.defs (items_of g.words l) new 0)) b) (sym (held_same g.words l));
@@ -233,9 +224,9 @@ module _ (g : Graph) (new : InstId) (l k : ℕ) (d : Defs) (a : Renewing g new l
 
       -- it is defined and takes that place
       pub renew_more : (t : Ty) (v : Value) (b c : Defs) → t ≡ type (at g.defs (get_or rs k no_value)) → v ≡ value (length (graph_of d).defs) →
-          graph_of b ≡ with_defs (graph_of d) ((graph_of d).defs ++ Inst t k new ∷ []) → Sound c →
+          graph_of b ≡ with_defs (graph_of d) ((graph_of d).defs ++ Inst t k new ∷ []) →
           graph_of c ≡ with_words (graph_of b) (changed (graph_of b).words l k v) → Renewing g new l (k + 1) c
-      renew_more t v b c p q r s e =
+      renew_more t v b c p q r e =
           let ds : (graph_of d).defs ++ Inst t k new ∷ [] ≡ made_defs g.defs rs new (k + 1) =
           ap (λ (xs : List ValueData). xs ++ Inst t k new ∷ []) renew_defs
           ∙ (ap (λ (u : Ty). made_defs g.defs rs new k ++ Inst u k new ∷ []) p ∙ defs_more g.defs rs new k h) in
@@ -248,7 +239,6 @@ module _ (g : Graph) (new : InstId) (l k : ℕ) (d : Defs) (a : Renewing g new l
           ∙ (ap (λ (x : Value). holding g.words l (set (made_words g.defs rs k) k x) (class_of g.words l)) f
           ∙ ap (λ (vs : List Value). holding g.words l vs (class_of g.words l)) (words_more g.defs rs new k h))) in
           record {
-            sound = s;
             same = e ∙ (ap (with_words (graph_of b)) w ∙ ap (λ (x : Graph). with_words x (holding g.words l (made_words g.defs rs (k + 1)) (class_of g.words l))) m);
           }
 

@@ -14,9 +14,9 @@ use Rattle.model.specs.Refusals.{Row, by_table, done, first, outcome, unless}
 use Rattle.model.specs.State.{Graph, State, call, call_list, inst, result_list, results}
 use Rattle.model.specs.Edits.{calls_copied, clone_inst, clone_rows, insts_full, inst_cloned, result_types, values_full, with_inst, with_results, with_words}
 use Rattle.model.proofs.Banks.{copied_only, items_other}
-use Rattle.model.proofs.Rows.{passes, when_none}
+use Rattle.model.proofs.Rows.{passes, pool_none, when_none}
 use Rattle.judges.specs.States.{state}
-use Rattle.insts.proofs.Makes.{add_made, counts_same, pool_none}
+use Rattle.insts.proofs.Makes.{add_made, counts_same}
 use Rattle.insts.proofs.Supplies.{first_fits, rest_fits}
 
 -- a list can be copied where as many words can be written
@@ -97,7 +97,7 @@ pub record Clones (s : State) (i : InstId) : Type 0 where
 copy_by : (b : Bool) (r : Result InstId TableFault) (i : InstId) (f : TableFault) → (by_table r ≡ None → r ≡ Ok i) →
     by_table (cond b r (Err f)) ≡ None → cond b r (Err f) ≡ Ok i
 copy_by true r i f h e = h e
-copy_by false r i f h e = let z : ◌≡◌ {A = ℕ} 0 1 = cc in absurd (omega arith)
+copy_by false r i f h e = absurd cc
 
 pub clones : (s : State) (i : InstId) → first (clone_rows s i) ≡ None → Clones s i
 clones s i e =
@@ -116,9 +116,6 @@ clones s i e =
 
 pub clones_answer : {s : State} {i : InstId} → Clones s i → (n : InstId) → Ok n ≡ copy_answer s.table i → n ≡ inst s.graph.insts
 clones_answer m n e = let a = m.answer in cc
-
-pub clones_never : {s : State} {i : InstId} → Clones s i → (f : TableFault) → Err f ≡ copy_answer s.table i → ⊥
-clones_never m f e = let a = m.answer in let z : ◌≡◌ {A = ℕ} 0 1 = cc in omega arith
 
 -- an accepted clone_inst
 pub cloned : (s : State) (i new : InstId) (g : Graph) (t : Table) → first (clone_rows s i) ≡ None → new ≡ inst s.graph.insts →

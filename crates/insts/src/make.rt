@@ -2,21 +2,21 @@ ghost use Rattle.std.specs.Prelude.{◌≡◌, ◌≤◌, map, length};
 ghost use Rattle.store.specs.Bank.{fault_for};
 ghost use Rattle.model.specs.Refusals.{by_pool, first, outcome};
 ghost use Rattle.model.specs.Edits.{make_inst, make_inst_rows};
-ghost use Rattle.defs.specs.Graphs.{Kept, Sound, graph_of, judged};
+ghost use Rattle.defs.specs.Graphs.{Kept, graph_of, judged};
 ghost use Rattle.judges.specs.States.{Unchanged, state};
 
-use crate::rows::room_in_table;
 use crate::steps::{aim, count_inst};
+use defs::judges::refuse_when;
 use defs::state::Defs;
 use ir::entities::{Block, Inst, Opcode, Value};
 use judges::lists::{known_blocks, known_values, unretired_values};
 use judges::tables::same_counts;
 use model::fault::GraphFault;
 use table::inst_table::InstTable;
+use table::room::room;
 
 // A block of cells for each call, of which there are at most two.
 fn room_for_calls(defs: &Defs<'_>, targets: &[Block]) -> Result<(), GraphFault>
-    requires sound { Sound defs.now }
     requires few { length targets.now ≤ 2 }
     ensures { result ≡ judged (by_pool (fault_for (graph_of defs.now).words (map (λ t. 1) targets.now))) }
 {
@@ -31,18 +31,16 @@ fn judge<T: InstTable>(
     operands: &[Value],
     targets: &[Block],
 ) -> Result<(), GraphFault>
-    requires sound { Sound defs.now }
     ensures { result ≡ judged (first (make_inst_rows (state (graph_of defs.now) (T.meaning table.now)) operands.now targets.now)) }
 {
     known_values(defs, operands)?;
     known_blocks(defs, targets)?;
     unretired_values(defs, operands)?;
     same_counts(defs, table)?;
-    if targets.len() > 2 {
-        return Err(GraphFault::Count(targets.len().min(0xFFFF_FFFF) as u32));
-    }
+    let targets_given = u32::try_from(targets.len()).unwrap_or(u32::MAX);
+    refuse_when(targets.len() > 2, GraphFault::Count(targets_given))?;
     defs.room_for_inst()?;
-    room_in_table(table, operands.len())?;
+    room(table, operands.len())?;
     room_for_calls(defs, targets)
 }
 
@@ -54,8 +52,6 @@ pub fn make_inst<T: InstTable>(
     operands: &[Value],
     targets: &[Block],
 ) -> Result<Inst, GraphFault>
-    requires sound { Sound defs.old }
-    ensures sound { Sound defs.new }
     ensures says { outcome result (state (graph_of defs.new) (T.meaning table.new)) ≡ make_inst opcode operands.now targets.now (state (graph_of defs.old) (T.meaning table.old)) }
     ensures kept { Kept result defs.old defs.new }
     ensures table { Unchanged result table.old table.new }

@@ -1,11 +1,10 @@
 ghost use Rattle.std.specs.Prelude.{◌≡◌, length, nat_lt};
-ghost use Rattle.defs.specs.Graphs.{Sound, graph_of};
+ghost use Rattle.defs.specs.Graphs.{graph_of};
 
 use defs::state::Defs;
 use ir::entities::{Block, Inst, Value};
 
 pub fn num_values(defs: &Defs<'_>) -> u32
-    requires { Sound defs.now }
     ensures { result ≡ length (graph_of defs.now).defs }
 {
     defs.values.count
@@ -24,7 +23,6 @@ pub fn num_insts(defs: &Defs<'_>) -> u32
 }
 
 pub fn value_is_valid(defs: &Defs<'_>, v: Value) -> bool
-    requires { Sound defs.now }
     ensures { result ≡ nat_lt v.0 (length (graph_of defs.now).defs) }
 {
     defs.values.knows(v)

@@ -4,6 +4,8 @@ use Rattle.ir.specs.declared.entities.Type.{«Type» as Ty}
 use Rattle.ir.specs.declared.value_data.ValueData.{ValueData}
 use Rattle.ir.specs.declared.value_data.ValueData.TheVariants.{Inst, Param, Alias, Union}
 use Rattle.ir.specs.declared.value_data.ValueDataPacked.{ValueDataPacked}
+use Rattle.ir.specs.declared.value_data.Tag.{Tag}
+use Rattle.ir.specs.declared.value_data.Tag.TheVariants as tag
 use Rattle.ir.specs.declared.fault.PackFault.{PackFault}
 use Rattle.ir.specs.declared.fault.PackFault.TheVariants.{Wide}
 
@@ -13,6 +15,13 @@ type_of p = record { 0 = p.flags % 16384 }
 
 abbrev pub tag_of : ValueDataPacked → ℕ
 tag_of p = p.flags / 16384
+
+-- the number of a tag
+abbrev pub number_of : Tag → ℕ
+number_of tag.Inst = 0
+number_of tag.Param = 1
+number_of tag.Alias = 2
+number_of tag.Union = 3
 
 abbrev pub fields : ℕ → Ty → ℕ → ℕ → ValueDataPacked
 fields tag ty x y = record { x = x; y = y; flags = tag * 16384 + ty.0 }

@@ -1,6 +1,6 @@
 ghost use Rattle.std.specs.Prelude.{◌≡◌};
 ghost use Rattle.ir.specs.Packing.{retired, type};
-ghost use Rattle.ir.specs.Definitions.{block_of, inst_of, place_of};
+ghost use Rattle.ir.specs.Definitions.{block_of, inst_of, param_of, place_of, result_of};
 
 use crate::entities::{Block, Inst, Type, Value};
 use crate::value_data::{ValueData, ValueDef};
@@ -27,9 +27,26 @@ impl ValueData {
     pub fn is_retired(self) -> bool
         ensures { result ≡ retired self }
     {
+        self == ValueData::RETIRED
+    }
+
+    // The place and the instruction, where this is a result.
+    pub fn as_result(self) -> Option<(u16, Inst)>
+        ensures { result ≡ result_of self }
+    {
         match self {
-            ValueData::Alias { ty, original } => ty.0 == 0 && original.0 == 0xFFFF_FFFF,
-            _ => false,
+            ValueData::Inst { num, inst, .. } => Some((num, inst)),
+            _ => None,
+        }
+    }
+
+    // The place and the block, where this is a parameter.
+    pub fn as_param(self) -> Option<(u16, Block)>
+        ensures { result ≡ param_of self }
+    {
+        match self {
+            ValueData::Param { num, block, .. } => Some((num, block)),
+            _ => None,
         }
     }
 }

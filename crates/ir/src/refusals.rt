@@ -1,27 +1,27 @@
-ghost use Rattle.std.specs.Prelude.{◌≡◌};
+ghost use Rattle.std.proofs.Common.{rules};
+ghost use Rattle.ir.specs.declared.fault.PackFault.TheVariants.{Tag, Wide};
 ghost use Rattle.ir.specs.Refusals.{refusal};
 
-use crate::fault::{Layer, PackFault};
+use crate::fault::{Fault, Layer, PackFault};
+use crate::reason::Reason;
 
-impl PackFault {
-    pub fn number(self) -> u32
-        ensures { result ≡ (refusal self).number }
-    {
+impl Fault for PackFault {
+    ghost told = { refusal };
+
+    ghost numbered = { elim [ Wide n ↦ Prim.search rules | Tag w ↦ Prim.search rules ] };
+
+    fn reason(self) -> Reason {
         match self {
-            PackFault::Wide(_) => 3,
-            PackFault::Tag(_) => 4,
+            PackFault::Wide(_) => Reason::Wide,
+            PackFault::Tag(_) => Reason::Tag,
         }
     }
 
-    pub fn layer(self) -> Layer
-        ensures { result ≡ (refusal self).layer }
-    {
+    fn layer(self) -> Layer {
         Layer::Packing
     }
 
-    pub fn detail(self) -> u32
-        ensures { result ≡ (refusal self).detail }
-    {
+    fn detail(self) -> u32 {
         match self {
             PackFault::Wide(found) | PackFault::Tag(found) => found,
         }

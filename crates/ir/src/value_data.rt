@@ -13,6 +13,15 @@ pub enum ValueData {
     Union { ty: Type, x: Value, y: Value },
 }
 
+// The kind of a definition: its number is what the flags hold above the type.
+#[derive(Clone, Copy, PartialEq, Eq)]
+pub enum Tag {
+    Inst,
+    Param,
+    Alias,
+    Union,
+}
+
 // A definition in three fields: tag and type share the flags.
 #[derive(Clone, Copy, PartialEq, Eq)]
 pub struct ValueDataPacked {

@@ -1,6 +1,6 @@
 use ir::block_arg::BlockArg;
 use ir::entities::Value;
-use ir::fault::{Layer, PackFault};
+use ir::fault::{Fault, Layer, PackFault};
 
 // An argument, and the word that holds it.
 #[derive(Clone, Copy)]
@@ -60,9 +60,13 @@ fn words(rt: HostRuntime) {
 fn wide_payloads(rt: HostRuntime) {
     for payload in [1_073_741_824u32, 0x7FFF_FFFF, 0x8000_0000, 0xFFFF_FFFF] {
         let wide = PackFault::Wide(payload);
-        assert!(rt; BlockArg::Value(Value(payload)).encode() == Err(wide));
-        assert!(rt; BlockArg::TryCallRet(payload).encode() == Err(wide));
-        assert!(rt; BlockArg::TryCallExn(payload).encode() == Err(wide));
+        for arg in [
+            BlockArg::Value(Value(payload)),
+            BlockArg::TryCallRet(payload),
+            BlockArg::TryCallExn(payload),
+        ] {
+            assert!(rt; arg.encode() == Err(wide));
+        }
         assert!(rt;
             wide.number() == 3 && wide.layer() == Layer::Packing && wide.detail() == payload
         );

@@ -1,6 +1,6 @@
 use ir::entities::{Block, Inst, Type, Value};
 use ir::fault::PackFault;
-use ir::value_data::{ValueData, ValueDataPacked, ValueDef};
+use ir::value_data::{Tag, ValueData, ValueDataPacked, ValueDef};
 
 // A definition, and the fields that hold it.
 #[derive(Clone, Copy)]
@@ -147,41 +147,29 @@ fn wide_types(rt: HostRuntime) {
     for ty in [16384u16, 16385, 0x8000, 0xFFFF] {
         let wide = PackFault::Wide(ty as u32);
         let ty = Type(ty);
-        assert!(rt;
+        for data in [
             ValueData::Inst {
                 ty,
                 num: 0,
                 inst: Inst(0),
-            }
-            .pack()
-                == Err(wide)
-        );
-        assert!(rt;
+            },
             ValueData::Param {
                 ty,
                 num: 0,
                 block: Block(0),
-            }
-            .pack()
-                == Err(wide)
-        );
-        assert!(rt;
+            },
             ValueData::Alias {
                 ty,
                 original: Value(0),
-            }
-            .pack()
-                == Err(wide)
-        );
-        assert!(rt;
+            },
             ValueData::Union {
                 ty,
                 x: Value(0),
                 y: Value(0),
-            }
-            .pack()
-                == Err(wide)
-        );
+            },
+        ] {
+            assert!(rt; data.pack() == Err(wide));
+        }
     }
 }
 
@@ -190,24 +178,9 @@ fn wide_types(rt: HostRuntime) {
 fn wide_places(rt: HostRuntime) {
     for x in [65536u32, 65537, 0xFFFF_FFFF] {
         let wide = PackFault::Wide(x);
-        assert!(rt;
-            ValueDataPacked {
-                x,
-                y: 0,
-                flags: 0x0005,
-            }
-            .unpack()
-                == Err(wide)
-        );
-        assert!(rt;
-            ValueDataPacked {
-                x,
-                y: 0,
-                flags: 0x4005,
-            }
-            .unpack()
-                == Err(wide)
-        );
+        for flags in [0x0005u16, 0x4005] {
+            assert!(rt; ValueDataPacked { x, y: 0, flags }.unpack() == Err(wide));
+        }
         let alias = ValueData::Alias {
             ty: Type(5),
             original: Value(9),
@@ -241,44 +214,33 @@ fn wide_places(rt: HostRuntime) {
 #[test]
 fn retired(rt: HostRuntime) {
     assert!(rt; ValueData::RETIRED.is_retired());
-    assert!(rt;
-        !ValueData::Alias {
+    for live in [
+        ValueData::Alias {
             ty: Type(1),
             original: Value::RESERVED,
-        }
-        .is_retired()
-    );
-    assert!(rt;
-        !ValueData::Alias {
+        },
+        ValueData::Alias {
             ty: Type::INVALID,
             original: Value(0xFFFF_FFFE),
-        }
-        .is_retired()
-    );
-    assert!(rt;
-        !ValueData::Union {
+        },
+        ValueData::Union {
             ty: Type::INVALID,
             x: Value::RESERVED,
             y: Value::RESERVED,
-        }
-        .is_retired()
-    );
-    assert!(rt;
-        !ValueData::Inst {
+        },
+        ValueData::Inst {
             ty: Type::INVALID,
             num: 0,
             inst: Inst(0xFFFF_FFFF),
-        }
-        .is_retired()
-    );
-    assert!(rt;
-        !ValueData::Param {
+        },
+        ValueData::Param {
             ty: Type::INVALID,
             num: 0,
             block: Block(0xFFFF_FFFF),
-        }
-        .is_retired()
-    );
+        },
+    ] {
+        assert!(rt; !live.is_retired());
+    }
 }
 
 #[test]
@@ -289,4 +251,25 @@ fn where_values_come_from(rt: HostRuntime) {
     assert!(rt; param.inst() == None && param.block() == Some(Block(3)) && param.num() == 1);
     let union = ValueDef::Union(Value(1), Value(2));
     assert!(rt; union.inst() == None && union.block() == None && union.num() == 0);
+}
+
+#[test]
+fn results_and_parameters(rt: HostRuntime) {
+    let result = CASES[0].data;
+    assert!(rt; result.as_result() == Some((2, Inst(7))) && result.as_param() == None);
+    let param = CASES[1].data;
+    assert!(rt; param.as_result() == None && param.as_param() == Some((2, Block(7))));
+    for case in &CASES[2..6] {
+        assert!(rt; case.data.as_result() == None && case.data.as_param() == None);
+    }
+}
+
+#[test]
+fn tags(rt: HostRuntime) {
+    for (case, tag) in CASES
+        .iter()
+        .zip([Tag::Inst, Tag::Param, Tag::Alias, Tag::Union])
+    {
+        assert!(rt; case.packed.tag() == tag);
+    }
 }

@@ -1,1 +1,2 @@
+pub mod Each
 pub mod States

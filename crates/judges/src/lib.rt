@@ -1,6 +1,7 @@
 #![tactic(auto)]
 
-// The rows of lists of arguments, and of a graph beside its table. They are public for the crates above alone, which
-// hold the data sound.
+// The rows of lists of arguments, of a value that another replaces, and of a graph beside its table, for the crates above.
+pub mod each;
 pub mod lists;
+pub mod places;
 pub mod tables;

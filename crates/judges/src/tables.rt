@@ -3,6 +3,7 @@ ghost use Rattle.model.specs.Edits.{counts_differ};
 ghost use Rattle.defs.specs.Graphs.{graph_of, judged};
 ghost use Rattle.judges.specs.States.{state};
 
+use defs::judges::refuse_when;
 use defs::state::Defs;
 use model::fault::GraphFault;
 use table::inst_table::InstTable;
@@ -12,8 +13,5 @@ pub fn same_counts<T: InstTable>(defs: &Defs<'_>, table: &T) -> Result<(), Graph
     ensures { result ≡ judged (counts_differ (state (graph_of defs.now) (T.meaning table.now))) }
 {
     let count = table.count();
-    if defs.insts != count {
-        return Err(GraphFault::Count(count));
-    }
-    Ok(())
+    refuse_when(defs.insts != count, GraphFault::Count(count))
 }

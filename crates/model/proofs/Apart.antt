@@ -1,5 +1,5 @@
 -- The faults that the definitions tell apart.
-use Rattle.std.proofs.Common.{◌≡◌, ℕ, ◌+◌, ◌<◌, Bool, ◌≢◌, [], ◌∷◌, length, get_or, sym, refl, ap, ◌∙◌, arith}
+use Rattle.std.proofs.Common.{◌≡◌, ℕ, ◌+◌, ◌<◌, Bool, ◌≢◌, [], ◌∷◌, length, get_or, sym, refl, ap, ◌∙◌}
 use Rattle.std.proofs.lemmas.Bool.{lt-leb}
 use Rattle.ir.specs.declared.entities.Value.{Value}
 use Rattle.store.specs.Units.{units, first_class, smallest}
@@ -22,7 +22,7 @@ moved_on : (s t : State) → Flattened s t → (i k : ℕ) (original : Value) �
 moved_on s t f i k original h q e same =
     let r : kind (at s.graph.defs (get_or (operands t.table i) k no_value)) ≡ Root = end (f.operands_led i k h q).1 in
     let l : Root ≡ Link original = sym (ap (λ (v : Value). kind (at s.graph.defs v)) (sym same) ∙ r) ∙ e in
-    let z : ◌≡◌ {A = ℕ} 0 1 = cc in absurd (omega arith)
+    absurd cc
 
 -- there is room for a block
 accepts_block : (s : State) → s.graph.blocks < s.graph.limits.blocks →

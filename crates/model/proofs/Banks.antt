@@ -1,9 +1,9 @@
 -- What each operation of a pool does to its lists: one gets other items, and every other stays.
-use Rattle.std.proofs.Common.{◌≡◌, ℕ, zero, suc, ◌<◌, Bool, true, false, cond, ltb, ◌≢◌, List, [], ◌∷◌, ◌++◌, length, get_or, take, drop, set, sym, refl, ap, ◌∙◌}
+use Rattle.std.proofs.Common.{◌≡◌, ℕ, zero, suc, ◌<◌, Bool, true, false, cond, ltb, ◌≢◌, List, [], ◌∷◌, ◌++◌, length, get_or, take, drop, set, sym, refl, ap, ◌∙◌, replicate}
 use Rattle.std.specs.List.{remove}
-use Rattle.std.proofs.lemmas.List.{length-set, get_or-set_same, get_or-set_other}
+use Rattle.std.proofs.lemmas.List.{length-set, get_or-set_same, get_or-set_other, length-replicate}
 use Rattle.store.specs.Units.{smallest}
-use Rattle.store.specs.Bank.{Bank, Owned, nothing, items_of, class_of, taken, obtained, cleared, holding, written, copied, roomy, grown, pushed, changed, shortened, removed_at, swapped_out, swap_removed_at}
+use Rattle.store.specs.Bank.{Bank, Owned, nothing, items_of, class_of, taken, obtained, cleared, holding, written, copied, roomy, grown, pushed, changed, shortened, removed_at, swapped_out, swap_removed_at, fresh}
 use Rattle.ir.specs.declared.entities.Value.{Value}
 use Rattle.model.specs.Edits.{readdressed}
 
@@ -61,12 +61,15 @@ pub cleared_only : {T : Type 0} (b : Bank T) (l : ℕ) → OnlyList b (cleared b
 unfolding cleared
 cleared_only b l = set_only b (cleared b l) l nothing refl
 
+-- a list put anew in a block of some class
+pub anew_only : {T : Type 0} (b : Bank T) (l : ℕ) (xs : List T) (class : ℕ) → OnlyList b (holding (obtained (cleared b l) class) l xs class) l xs
+anew_only b l xs class =
+    only_then (cleared_only b l)
+    (only_from (sym (obtained_lists (cleared b l) class)) (holding_only (obtained (cleared b l) class) l xs class))
+
 pub written_only : {T : Type 0} (b : Bank T) (l : ℕ) (xs : List T) → OnlyList b (written b l xs) l xs
 unfolding written
-written_only b l xs =
-    only_then (cleared_only b l)
-    (only_from (sym (obtained_lists (cleared b l) (smallest (length xs))))
-    (holding_only (obtained (cleared b l) (smallest (length xs))) l xs (smallest (length xs))))
+written_only b l xs = anew_only b l xs (smallest (length xs))
 
 pub copied_only : {T : Type 0} (b : Bank T) (l m : ℕ) → OnlyList b (copied b l m) m (items_of b l)
 copied_only b l m = written_only b m (items_of b l)
@@ -108,3 +111,18 @@ swap_removed_at_only b l i = shortened_only b l (swapped_out (items_of b l) i)
 pub readdressed_only : (b : Bank Value) (l : ℕ) (change : List Value → List Value) →
     OnlyList b (readdressed b l change) l (take 1 (items_of b l) ++ change (drop 1 (items_of b l)))
 readdressed_only b l change = holding_only b l (take 1 (items_of b l) ++ change (drop 1 (items_of b l))) (class_of b l)
+
+-- A new pool has as many lists as were asked for, and all are empty.
+
+pub all_alike : {A : Type 0} (n l : ℕ) (x : A) → get_or (replicate n x) l x ≡ x
+all_alike zero l x = refl
+all_alike (suc n) zero x = refl
+all_alike (suc n) (suc l) x = all_alike n l x
+
+pub fresh_count : (T : Type 0) (n left : ℕ) → length (fresh {T = T} n left).lists ≡ n
+unfolding fresh
+fresh_count T n left = length-replicate n nothing
+
+pub fresh_at : (T : Type 0) (n left l : ℕ) → get_or (fresh {T = T} n left).lists l nothing ≡ nothing
+unfolding fresh
+fresh_at T n left l = all_alike n l nothing

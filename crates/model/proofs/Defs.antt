@@ -12,14 +12,10 @@ use Rattle.ir.specs.Packing.{type, retired, retired_mark}
 use Rattle.values.specs.declared.kind.Kind.{Kind}
 use Rattle.values.specs.declared.kind.Kind.TheVariants.{Root, Link, Gone}
 use Rattle.values.specs.Leads.{at, kind, Exists, LiveAlias, NonAlias, Leads, here, step}
-use Rattle.values.proofs.Ways.{unique, end, at_same, at_other, kind_other, non_alias_exists, live_alias_exists, short}
+use Rattle.values.proofs.Ways.{same_value, unique, end, at_same, at_other, kind_other, non_alias_exists, live_alias_exists, short}
 use Rattle.model.specs.State.{value, no_value}
 use Rattle.model.specs.Edits.{aliased, aliased_each, number, numbered, lowered, moved, defined, seats, seated}
 use Rattle.model.specs.Laws.{Usable}
-
--- newtypes are equal when their numbers are
-pub same_value : (a b : Value) → a.0 ≡ b.0 → a ≡ b
-same_value a b p = ap (λ (n : ℕ). let u : Value = record { 0 = n } in u) p
 
 pub same_type : (a b : Ty) → a.0 ≡ b.0 → a ≡ b
 same_type a b p = ap (λ (n : ℕ). let u : Ty = record { 0 = n } in u) p
@@ -33,14 +29,14 @@ cases_value a b = elim (cases_eq a.0 b.0) [
 -- Usable values are those whose kind is not Gone.
 
 -- only the retired mark is gone
-gone_mark : (d : ValueData) → kind d ≡ Gone → d ≡ retired_mark
-gone_mark (Inst ty n i) e = let z : ◌≡◌ {A = ℕ} 0 1 = cc in absurd (omega arith)
-gone_mark (Param ty n b) e = let z : ◌≡◌ {A = ℕ} 0 1 = cc in absurd (omega arith)
-gone_mark (Union ty x y) e = let z : ◌≡◌ {A = ℕ} 0 1 = cc in absurd (omega arith)
+pub gone_mark : (d : ValueData) → kind d ≡ Gone → d ≡ retired_mark
+gone_mark (Inst ty n i) e = absurd cc
+gone_mark (Param ty n b) e = absurd cc
+gone_mark (Union ty x y) e = absurd cc
 gone_mark (Alias ty o) e = by (retired (Alias ty o)) refl e
   where
     by : (b : Bool) → retired (Alias ty o) ≡ b → cond b Gone (Link o) ≡ Gone → Alias ty o ≡ retired_mark
-    by false p q = let z : ◌≡◌ {A = ℕ} 0 1 = cc in absurd (omega arith)
+    by false p q = absurd cc
     by true p q =
         let h = and_parts (eqb ty.0 0) (eqb o.0 0xFFFF_FFFF) p in
         let t = same_type ty (record { 0 = 0 }) (eqb-true ty.0 0 h.0) in
@@ -59,10 +55,10 @@ kind_usable ds v h = (by (kind (at ds v)) refl, λ r. h (ap kind r.1))
     by Gone e = absurd (h e)
 
 pub root_usable : (ds : List ValueData) (v : Value) → NonAlias ds v → Usable ds v
-root_usable ds v e = kind_usable ds v (λ f. let z : ◌≡◌ {A = ℕ} 0 1 = cc in omega arith)
+root_usable ds v e = kind_usable ds v (λ f. cc)
 
 pub link_usable : (ds : List ValueData) (v o : Value) → LiveAlias ds v o → Usable ds v
-link_usable ds v o e = kind_usable ds v (λ f. let z : ◌≡◌ {A = ℕ} 0 1 = cc in omega arith)
+link_usable ds v o e = kind_usable ds v (λ f. cc)
 
 pub leads_usable : {ds : List ValueData} {v r : Value} {n : ℕ} → Leads ds v r n → Usable ds v
 leads_usable {ds} (here {v = v} e) = root_usable ds v e
@@ -147,7 +143,7 @@ usable_leads ds S v u = by (kind (at ds v)) refl
     by Gone e = absurd (usable_kind ds v u e)
 
 -- a definition of the same type in place of another keeps all types
-type_set : (ds : List ValueData) (i : ℕ) (x : ValueData) → type x ≡ type (get_or ds i retired_mark) →
+pub type_set : (ds : List ValueData) (i : ℕ) (x : ValueData) → type x ≡ type (get_or ds i retired_mark) →
     (j : ℕ) → type (get_or (set ds i x) j retired_mark) ≡ type (get_or ds j retired_mark)
 type_set [] i x e j = refl
 type_set (d ∷ ds) zero x e zero = e
@@ -268,8 +264,8 @@ module _ (ds : List ValueData) (x : ValueData) (S : Sound ds) (root : kind x ≡
           ap type (at_push ds x q.0 (non_alias_exists ds q.0 q.4)) ∙ q.5 ∙ sym (ap type (at_push ds x v h)),
         )
     | inr w ↦ elim w [
-      | inl p ↦ let y : Root ≡ Link o = sym root ∙ sym (ap kind p) ∙ e in let z : ◌≡◌ {A = ℕ} 0 1 = cc in absurd (omega arith)
-      | inr p ↦ let y : Gone ≡ Link o = sym (ap kind p) ∙ e in let z : ◌≡◌ {A = ℕ} 0 1 = cc in absurd (omega arith)
+      | inl p ↦ let y : Root ≡ Link o = sym root ∙ sym (ap kind p) ∙ e in absurd cc
+      | inr p ↦ let y : Gone ≡ Link o = sym (ap kind p) ∙ e in absurd cc
     ]
   ]
 

@@ -1,14 +1,12 @@
 -- What each accepted edit but flattening makes of the definitions.
-use Rattle.std.proofs.Common.{◌≡◌, ℕ, zero, suc, ◌+◌, ◌<◌, Bool, true, false, cond, not, eqb, ltb, leb, ◌≢◌, List, [], ◌∷◌, ◌++◌, map, length, get_or, take, drop, Some, None, Option, sym, refl, ap, ◌∙◌, subst, not-suc-le-zero, arith}
+use Rattle.std.proofs.Common.{◌≡◌, ℕ, zero, suc, ◌+◌, ◌<◌, Bool, true, false, cond, not, eqb, ltb, leb, ◌≢◌, List, [], ◌∷◌, ◌++◌, map, length, get_or, take, drop, Some, None, Option, sym, refl, ap, ◌∙◌, subst, not-suc-le-zero, arith, ◌⊎◌, inl, inr}
 use Rattle.std.proofs.lemmas.Bool.{leb-false, eqb-true, eqb-false, not-false, or_parts, both_ways}
 use Rattle.ir.specs.declared.entities.Value.{Value}
 use Rattle.ir.specs.declared.entities.Inst.{Inst as InstId}
 use Rattle.ir.specs.declared.entities.Block.{Block}
 use Rattle.ir.specs.declared.entities.Type.{«Type» as Ty}
-use Rattle.ir.specs.declared.entities.Opcode.{Opcode}
 use Rattle.ir.specs.declared.value_data.ValueData.{ValueData}
 use Rattle.ir.specs.declared.value_data.ValueData.TheVariants.{Inst, Param, Union}
-use Rattle.ir.specs.declared.block_arg.BlockArg.{BlockArg}
 use Rattle.ir.specs.Packing.{type, retired, retired_mark}
 use Rattle.store.specs.Bank.{removed_at}
 use Rattle.table.specs.Table.{operands, add_table, copy_table}
@@ -20,7 +18,7 @@ use Rattle.renaming.proofs.Ends.{end_reached}
 use Rattle.model.specs.declared.fault.GraphFault.{GraphFault}
 use Rattle.model.specs.declared.fault.GraphFault.TheVariants.{Full}
 use Rattle.model.specs.Refusals.{Row, when, done, settle}
-use Rattle.model.specs.State.{Graph, State, Entry, starts, alias, value, inst, block, no_value, param_list, result_list, call_list, params, results}
+use Rattle.model.specs.State.{Graph, State, starts, alias, value, inst, block, no_value, param_list, result_list, call_list, params, results}
 use Rattle.model.specs.Edits as edit
 use Rattle.model.specs.Edits.{unknown_values, retired_values, reused, mistyped, mistyped_places, types_differ, no_type}
 use Rattle.model.specs.Runs.{Edit, Answer, a_value, an_inst, a_block, a_number, is_plain, is_detached, on_graph, on_state, does, make_block, make_inst, make_inst_results, clear_results, replace_result, replace_block_param, remove_block_param, swap_remove_block_param, append_block_param, attach_block_param, detach_block_params, clone_inst, append_argument, remove, map_inst_values, overwrite_inst_values, change_to_alias, replace_with_aliases, union, resolve_all_aliases, set_label}
@@ -37,18 +35,18 @@ pub good_sound : (s : State) → Good s → Sound s.graph.defs
 good_sound s g = record { home = g.home; sides = g.alive.sides_are }
 
 -- an accepted edit keeps the definitions as what it gives does
-module _ {A : Type 0} (s t : State) (answer : A → Answer) (rows : List Row) (x : A) (a : Answer) where
+module _ {A B : Type 0} (s t : State) (answer : A → Answer) (rows : List Row) (x : A) (a : Answer) where
   graph_kept : (after : Graph) → on_graph s answer (settle rows x after) ≡ done a t →
-      (Passes rows → Kept s.graph.defs after.defs) → DefsKept s t
+      (Passes rows → Kept s.graph.defs after.defs) → DefsKept s t ⊎ B
   graph_kept after e k =
       let q = graph_done s answer rows x after a t e in
-      subst (λ (u : State). DefsKept s u) q.1 (k q.0)
+      inl (subst (λ (u : State). DefsKept s u) q.1 (k q.0))
 
   state_kept : (after : State) → on_state answer (settle rows x after) ≡ done a t →
-      (Passes rows → DefsKept s after) → DefsKept s t
+      (Passes rows → DefsKept s after) → DefsKept s t ⊎ B
   state_kept after e k =
       let q = state_done answer rows x after a t e in
-      subst (λ (u : State). DefsKept s u) q.1 (k q.0)
+      inl (subst (λ (u : State). DefsKept s u) q.1 (k q.0))
 
 -- what the shared rows say where they do not hold
 
@@ -84,7 +82,7 @@ fits g (t ∷ ts) (Some v ∷ reuse) e f =
   where
     cond_kept : (b : Bool) (h : GraphFault) (r : Row) → cond b r (Some h) ≡ None → (b ≡ true) × (r ≡ None)
     cond_kept true h r p = (refl, p)
-    cond_kept false h r p = let z : ◌≡◌ {A = ℕ} 0 1 = cc in absurd (omega arith)
+    cond_kept false h r p = absurd cc
 
 -- types that do not differ are the same, and there is one
 pub alike : (g : Graph) (d r : Value) → types_differ g d r ≡ false →
@@ -127,137 +125,97 @@ other_results s n d i hd hi ne e =
       typed = λ k h l. (types k h l).1;
     }
 
--- One theorem for each edit.
 module _ (s t : State) (a : Answer) (G : Good s) where
   abbrev g : Graph
   g = s.graph
 
-  -- these leave the definitions as they are
+  -- the definitions as they are
   same : Kept g.defs g.defs
   same = kept_same g.defs (good_sound s G)
 
-  pub defs_make_block : does make_block s ≡ done a t → DefsKept s t
-  defs_make_block e =
+  -- one value more
+  new : (x : ValueData) → kind x ≡ Root → SidesOf g.defs x → Kept g.defs (g.defs ++ x ∷ [])
+  new x k u = kept_push g.defs x (good_sound s G) k u
+
+  -- every edit, but flattening
+  pub defs_kept : (x : Edit) → does x s ≡ done a t → DefsKept s t ⊎ (x ≡ resolve_all_aliases)
+  defs_kept make_block e =
       graph_kept s t a_block (when (leb g.limits.blocks g.blocks) (Full g.limits.blocks) ∷ []) (block g.blocks) a
       (record { defs = g.defs; blocks = g.blocks + 1; insts = g.insts; words = g.words; labels = g.labels; starts = g.starts; limits = g.limits })
       e (λ p. same)
-
-  pub defs_make_inst : (op : Opcode) (os : List Value) (ts : List Block) → does (make_inst op os ts) s ≡ done a t → DefsKept s t
-  defs_make_inst op os ts e =
+  defs_kept (make_inst op os ts) e =
       state_kept s t an_inst (edit.make_inst_rows s os ts) (inst g.insts) a
       (record {
         graph = edit.with_inst (edit.with_words g (edit.aimed g (inst g.insts) 0 ts g.words));
         table = add_table s.table op os;
       })
       e (λ p. same)
-
-  pub defs_clear_results : (i : InstId) → does (clear_results i) s ≡ done a t → DefsKept s t
-  defs_clear_results i e =
+  defs_kept (clear_results i) e =
       graph_kept s t is_plain (edit.unknown_inst g i ∷ []) tt a (edit.without_results g i) e (λ p. same)
-
-  pub defs_detach_block_params : (b : Block) (out : List Value) → does (detach_block_params b out) s ≡ done a t → DefsKept s t
-  defs_detach_block_params b out e =
+  defs_kept (detach_block_params b out) e =
       graph_kept s t is_detached (edit.detach_rows g b out) (length (params g b), edit.written_over out (params g b)) a
       (edit.without_params g b) e (λ p. same)
-
-  pub defs_append_argument : (i : InstId) (j : ℕ) (arg : BlockArg) → does (append_argument i j arg) s ≡ done a t → DefsKept s t
-  defs_append_argument i j arg e =
+  defs_kept (append_argument i j arg) e =
       graph_kept s t is_plain (edit.append_argument_rows g i j arg) tt a (edit.argument_appended g i j arg) e (λ p. same)
-
-  pub defs_remove : (i : InstId) (j k : ℕ) → does (remove i j k) s ≡ done a t → DefsKept s t
-  defs_remove i j k e =
+  defs_kept (remove i j k) e =
       graph_kept s t is_plain (edit.remove_argument_rows g i j k) tt a
       (edit.with_words g (removed_at g.words (call_list g i j) (k + 1))) e (λ p. same)
-
-  pub defs_map_inst_values : (i : InstId) (f : Value → Value) → does (map_inst_values i f) s ≡ done a t → DefsKept s t
-  defs_map_inst_values i f e =
+  defs_kept (map_inst_values i f) e =
       state_kept s t is_plain (edit.map_rows s i f) tt a
       (record {
         graph = edit.with_words g (edit.calls_renamed g f i g.words);
         table = edit.with_operands s.table i (map f (operands s.table i.0));
       })
       e (λ p. same)
-
-  pub defs_overwrite_inst_values : (i : InstId) (vs : List Value) → does (overwrite_inst_values i vs) s ≡ done a t → DefsKept s t
-  defs_overwrite_inst_values i vs e =
+  defs_kept (overwrite_inst_values i vs) e =
       state_kept s t is_plain (edit.overwrite_rows s i vs) tt a
       (record {
         graph = edit.with_words g (edit.calls_poured g i (drop (length (operands s.table i.0)) vs));
         table = edit.with_operands s.table i (take (length (operands s.table i.0)) vs);
       })
       e (λ p. same)
-
-  pub defs_set_label : (v : Value) (l : Entry) → does (set_label v l) s ≡ done a t → DefsKept s t
-  defs_set_label v (starts ss) e =
+  defs_kept (set_label v (starts ss)) e =
       graph_kept s t is_plain (edit.set_label_rows g v (starts ss)) tt a (edit.labelled g v (starts ss)) e (λ p. same)
-  defs_set_label v (alias from target) e =
+  defs_kept (set_label v (alias from target)) e =
       graph_kept s t is_plain (edit.set_label_rows g v (alias from target)) tt a (edit.labelled g v (alias from target)) e (λ p. same)
-
-  -- these make a value
-  new : (x : ValueData) → kind x ≡ Root → SidesOf g.defs x → Kept g.defs (g.defs ++ x ∷ [])
-  new x k u = kept_push g.defs x (good_sound s G) k u
-
-  pub defs_replace_result : (v : Value) (ty : Ty) → does (replace_result v ty) s ≡ done a t → DefsKept s t
-  defs_replace_result v ty e =
+  defs_kept (replace_result v ty) e =
       let x : ValueData = Inst ty (edit.number (at g.defs v)) (edit.inst_of (at g.defs v)) in
       graph_kept s t a_value (edit.replace_rows g v ty (edit.is_result (at g.defs v))) (value (length g.defs)) a
       (edit.replaced g (result_list g (edit.inst_of (at g.defs v))) (edit.number (at g.defs v)) x) e (λ p. new x refl tt)
-
-  pub defs_replace_block_param : (v : Value) (ty : Ty) → does (replace_block_param v ty) s ≡ done a t → DefsKept s t
-  defs_replace_block_param v ty e =
+  defs_kept (replace_block_param v ty) e =
       let x : ValueData = Param ty (edit.number (at g.defs v)) (edit.block_of (at g.defs v)) in
       graph_kept s t a_value (edit.replace_rows g v ty (edit.is_param (at g.defs v))) (value (length g.defs)) a
       (edit.replaced g (param_list g (edit.block_of (at g.defs v))) (edit.number (at g.defs v)) x) e (λ p. new x refl tt)
-
-  pub defs_append_block_param : (b : Block) (ty : Ty) → does (append_block_param b ty) s ≡ done a t → DefsKept s t
-  defs_append_block_param b ty e =
+  defs_kept (append_block_param b ty) e =
       graph_kept s t a_value (edit.append_param_rows g b ty) (value (length g.defs)) a (edit.param_appended g b ty) e
       (λ p. new (Param ty (length (params g b)) b) refl tt)
-
-  pub defs_union : (x y : Value) → does (union x y) s ≡ done a t → DefsKept s t
-  defs_union x y e =
+  defs_kept (union x y) e =
       let u : ValueData = Union (type (at g.defs x)) x y in
       graph_kept s t a_value (edit.union_rows g x y) (value (length g.defs)) a (edit.with_defs g (g.defs ++ u ∷ [])) e (λ p.
       let side = usable g (x ∷ y ∷ []) p.0 p.1.0 in new u refl (side 0 (omega arith), side 1 (omega arith)))
-
-  -- these make results
-  pub defs_make_inst_results : (i : InstId) (ts : List Ty) (reuse : List (Option Value)) →
-      does (make_inst_results i ts reuse) s ≡ done a t → DefsKept s t
-  defs_make_inst_results i ts reuse e =
+  defs_kept (make_inst_results i ts reuse) e =
       graph_kept s t a_number (edit.make_inst_results_rows g i ts reuse) (length ts) a (edit.with_results g i ts reuse) e (λ p.
       kept_seated i 0 ts reuse g.defs (length g.defs) refl (good_sound s G) (fits g ts reuse p.1.0 p.1.1.1.1.1.0))
-
-  pub defs_clone_inst : (i : InstId) → does (clone_inst i) s ≡ done a t → DefsKept s t
-  defs_clone_inst i e =
+  defs_kept (clone_inst i) e =
       state_kept s t an_inst (edit.clone_rows s i) (inst g.insts) a
       (record { graph = edit.inst_cloned g i; table = copy_table s.table i }) e (λ p.
       kept_seated (inst g.insts) 0 (edit.result_types g i) [] g.defs (length g.defs) refl (good_sound s G)
       (fit_none g.defs (edit.result_types g i)))
-
-  -- these give values other places
-  pub defs_remove_block_param : (v : Value) → does (remove_block_param v) s ≡ done a t → DefsKept s t
-  defs_remove_block_param v e =
+  defs_kept (remove_block_param v) e =
       let b : Block = edit.block_of (at g.defs v) in
       let n : ℕ = edit.number (at g.defs v) in
       graph_kept s t is_plain (edit.remove_rows g v) tt a (edit.param_removed g b n) e (λ p.
       kept_lowered g.defs (drop (n + 1) (params g b)) (good_sound s G))
-
-  pub defs_swap_remove_block_param : (v : Value) → does (swap_remove_block_param v) s ≡ done a t → DefsKept s t
-  defs_swap_remove_block_param v e =
+  defs_kept (swap_remove_block_param v) e =
       let b : Block = edit.block_of (at g.defs v) in
       let n : ℕ = edit.number (at g.defs v) in
       graph_kept s t a_number (edit.remove_rows g v) n a (edit.param_swap_removed g b n) e (λ p.
       kept_moved g.defs (edit.last_of (params g b)) n (ltb (n + 1) (length (params g b))) (good_sound s G))
-
-  pub defs_attach_block_param : (b : Block) (v : Value) → does (attach_block_param b v) s ≡ done a t → DefsKept s t
-  defs_attach_block_param b v e =
+  defs_kept (attach_block_param b v) e =
       graph_kept s t is_plain (edit.attach_param_rows g b v) tt a (edit.param_attached g b v) e (λ p.
       kept_redefined g.defs v (Param (type (at g.defs v)) (length (params g b)) b) (good_sound s G)
       (known g (v ∷ []) p.1.0 0 (omega arith)) refl tt refl)
-
-  -- these make aliases
-  pub defs_change_to_alias : (d v : Value) → does (change_to_alias d v) s ≡ done a t → DefsKept s t
-  defs_change_to_alias d v e =
+  defs_kept (change_to_alias d v) e =
       let r : Value = end_of g.defs v in
       graph_kept s t is_plain (edit.change_rows g d v) tt a (edit.with_defs g (edit.aliased g.defs d r)) e (λ p.
       let S : Sound g.defs = good_sound s G in
@@ -268,9 +226,7 @@ module _ (s t : State) (a : Answer) (G : Good s) where
       kept_aliased g.defs d r S (known g (d ∷ v ∷ []) p.0 0 (omega arith)) root
       (λ z. eqb-false r.0 d.0 (when_none (eqb r.0 d.0) _ p.1.1.1.1.0) (ap (λ (w : Value). w.0) z))
       types.0 types.1)
-
-  pub defs_replace_with_aliases : (d i : InstId) → does (replace_with_aliases d i) s ≡ done a t → DefsKept s t
-  defs_replace_with_aliases d i e =
+  defs_kept (replace_with_aliases d i) e =
       graph_kept s t is_plain (edit.replace_aliases_rows g d i) tt a
       (edit.without_results (edit.with_defs g (edit.aliased_each g.defs (results g d) (results g i))) d) e (λ p.
       kept_aliased_each g.defs (results g d) (results g i) (good_sound s G)
@@ -279,27 +235,4 @@ module _ (s t : State) (a : Answer) (G : Good s) where
       (leb-false g.insts i.0 (when_none (leb g.insts i.0) _ p.1.0))
       (eqb-false d.0 i.0 (when_none (eqb d.0 i.0) _ p.1.1.1.0))
       p.1.1.0))
-
-  -- every edit but flattening
-  pub defs_kept : (x : Edit) → x ≢ resolve_all_aliases → does x s ≡ done a t → DefsKept s t
-  defs_kept make_block h e = defs_make_block e
-  defs_kept (make_inst op os ts) h e = defs_make_inst op os ts e
-  defs_kept (make_inst_results i ts reuse) h e = defs_make_inst_results i ts reuse e
-  defs_kept (clear_results i) h e = defs_clear_results i e
-  defs_kept (replace_result v ty) h e = defs_replace_result v ty e
-  defs_kept (replace_block_param v ty) h e = defs_replace_block_param v ty e
-  defs_kept (remove_block_param v) h e = defs_remove_block_param v e
-  defs_kept (swap_remove_block_param v) h e = defs_swap_remove_block_param v e
-  defs_kept (append_block_param b ty) h e = defs_append_block_param b ty e
-  defs_kept (attach_block_param b v) h e = defs_attach_block_param b v e
-  defs_kept (detach_block_params b out) h e = defs_detach_block_params b out e
-  defs_kept (clone_inst i) h e = defs_clone_inst i e
-  defs_kept (append_argument i j arg) h e = defs_append_argument i j arg e
-  defs_kept (remove i j k) h e = defs_remove i j k e
-  defs_kept (map_inst_values i f) h e = defs_map_inst_values i f e
-  defs_kept (overwrite_inst_values i vs) h e = defs_overwrite_inst_values i vs e
-  defs_kept (change_to_alias d v) h e = defs_change_to_alias d v e
-  defs_kept (replace_with_aliases d i) h e = defs_replace_with_aliases d i e
-  defs_kept (union x y) h e = defs_union x y e
-  defs_kept resolve_all_aliases h e = absurd (h refl)
-  defs_kept (set_label v l) h e = defs_set_label v l e
+  defs_kept resolve_all_aliases e = inr refl

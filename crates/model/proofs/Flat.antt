@@ -1,5 +1,5 @@
 -- What flattening does to a graph that edits alone have made.
-use Rattle.std.proofs.Common.{◌≡◌, ℕ, ◌+◌, ◌<◌, Bool, true, false, cond, not, ◌⊎◌, List, [], ◌∷◌, map, length, get_or, take, drop, Some, None, sym, refl, ap, ◌∙◌, subst, inl, inr, arith}
+use Rattle.std.proofs.Common.{◌≡◌, ℕ, ◌+◌, ◌<◌, Bool, true, false, cond, not, ◌⊎◌, List, [], ◌∷◌, map, length, get_or, take, drop, Some, None, sym, refl, ap, ◌∙◌, subst, inl, inr, arith, Option}
 use lib.ListN
 use lib.ListN.{length-map}
 use Rattle.std.proofs.lemmas.List.{get_or-map}
@@ -23,7 +23,7 @@ use Rattle.model.specs.declared.labels.Start.{Start}
 use Rattle.model.specs.declared.labels.Label.{Label}
 use Rattle.model.specs.declared.labels.Label.TheVariants as label
 use Rattle.model.specs.Refusals.{Row, first, Outcome, refused, unless, when}
-use Rattle.model.specs.State.{Graph, State, starts, alias, value, result_list, params, results, call, arguments, value_argument, as_entry, label_at, entry, no_value}
+use Rattle.model.specs.State.{Graph, State, starts, value, result_list, params, results, call, arguments, value_argument, as_entry, label_at, entry, no_value}
 use Rattle.model.specs.Edits.{renamed_argument, renamed_word, unknown_values, retired_values, counts_differ}
 use Rattle.model.specs.Flattening.{live, flat, row_renamed, table_renamed, retargeted, all_operands, alias_side, first_side, flatten_rows, graph_flattened, flattened}
 use Rattle.model.specs.Runs.{Answer, plain, is_plain, on_state, does, resolve_all_aliases}
@@ -32,7 +32,8 @@ use Rattle.model.proofs.Rows.{state_done}
 use Rattle.model.proofs.Invariant.{Good}
 use Rattle.model.proofs.UsesWords.{small_word}
 use Rattle.model.proofs.FlatLists.{call_renamed, all_others, all_renamed}
-use Rattle.model.proofs.FlatParts.{live_inv, live_of, not_live, flat_live, flat_other, usable_not_retired, led, relabelled_at, starts_stay, side_inv, side_of, side_found, side_absent, no_operand}
+use Rattle.model.proofs.FlatParts.{live_inv, live_of, not_live, flat_live, flat_other, usable_not_retired, led, relabelled_at, starts_stay, side_inv, side_of, side_found, side_absent, no_operand, absent_either}
+use Rattle.model.proofs.Uses.{entry_label}
 
 -- a call by its target and its arguments
 renamed_target : (f : Value → Value) (ws : List Value) → take 1 (call_renamed f ws) ≡ take 1 ws
@@ -51,25 +52,15 @@ none_then : (r : Row) (rows : List Row) → r ≡ None → first (r ∷ rows) �
 none_then r rows e = ap (λ (q : Row). first (q ∷ rows)) e
 
 -- entries by label
-no_label : (l : Label) (ss : List Start) → as_entry l ss ≡ None → l ≡ label.Absent
-no_label label.Absent ss e = refl
-no_label label.Starts ss e = let z : ◌≡◌ {A = ℕ} 0 1 = cc in absurd (omega arith)
-no_label (label.Alias from target) ss e = let z : ◌≡◌ {A = ℕ} 0 1 = cc in absurd (omega arith)
+no_label : (l : Option Label) (ss : List Start) → as_entry l ss ≡ None → l ≡ None
+no_label None ss e = refl
+no_label (Some label.Starts) ss e = absurd cc
+no_label (Some (label.Alias from target)) ss e = absurd cc
 
-some_starts : (l : Label) (ss xs : List Start) → as_entry l ss ≡ Some (starts xs) → (l ≡ label.Starts) × (ss ≡ xs)
-some_starts label.Absent ss xs e = let z : ◌≡◌ {A = ℕ} 0 1 = cc in absurd (omega arith)
-some_starts label.Starts ss xs e = let p : ss ≡ xs = cc in (refl, p)
-some_starts (label.Alias from target) ss xs e = let z : ◌≡◌ {A = ℕ} 0 1 = cc in absurd (omega arith)
-
-pub some_alias : (l : Label) (ss : List Start) (from : ℕ) (target : Value) → as_entry l ss ≡ Some (alias from target) → l ≡ label.Alias from target
-some_alias label.Absent ss from target e = let z : ◌≡◌ {A = ℕ} 0 1 = cc in absurd (omega arith)
-some_alias label.Starts ss from target e = let z : ◌≡◌ {A = ℕ} 0 1 = cc in absurd (omega arith)
-some_alias (label.Alias from' target') ss from target e =
-    let p : from' ≡ from = cc in let q : target' ≡ target = cc in ap (λ (n : ℕ). label.Alias n target') p ∙ ap (label.Alias from) q
-
-absent_both : (b : Bool) → cond b label.Absent label.Absent ≡ label.Absent
-absent_both true = refl
-absent_both false = refl
+some_starts : (l : Option Label) (ss xs : List Start) → as_entry l ss ≡ Some (starts xs) → (l ≡ Some label.Starts) × (ss ≡ xs)
+some_starts None ss xs e = absurd cc
+some_starts (Some label.Starts) ss xs e = let p : ss ≡ xs = cc in (refl, p)
+some_starts (Some (label.Alias from target)) ss xs e = absurd cc
 
 module _ (s : State) (good : Good s) where
   abbrev ds : List ValueData
@@ -94,9 +85,6 @@ module _ (s : State) (good : Good s) where
   only_sides =
       none_then _ _ known ∙ (none_then _ _ unretired ∙ (none_then _ _ counted ∙ first_one (first_side s.graph.defs 0 s.graph.defs)))
 
-  side_given : (k : ℕ) → live (at ds (value k)) ≡ true → (o : Value) × LiveAlias ds (value k) o
-  side_given k e = live_inv (at ds (value k)) e
-
   -- a live side, as a union of the graph
   as_side : (f : GraphFault) → first_side ds 0 ds ≡ Some f → AliasAsSide s
   as_side f e =
@@ -118,7 +106,7 @@ module _ (s : State) (good : Good s) where
       let h = non_alias_exists ds a.union k in
       let n : ◌≡◌ {A = Bool} (alias_side ds (at ds a.union)) false = side_absent ds ds 0 e a.union.0 h in
       let y : ◌≡◌ {A = Bool} (alias_side ds (at ds a.union)) true = side_of ds (at ds a.union) a.ty a.x a.y a.is_union (sides a.is_alias) in
-      let z : ◌≡◌ {A = ℕ} 0 1 = cc in absurd (omega arith)
+      absurd cc
     where
       sides : LiveAlias ds a.x a.original ⊎ LiveAlias ds a.y a.original → (live (at ds a.x) ≡ true) ⊎ (live (at ds a.y) ≡ true)
       sides (inl p) = inl (live_of (at ds a.x) a.original p)
@@ -128,7 +116,7 @@ module _ (s : State) (good : Good s) where
   flat_does r = on_state is_plain (unless r tt (flattened s))
 
   to_side : (r : Row) → first_side ds 0 ds ≡ r → (f : GraphFault) → flat_does r ≡ refused f → AliasAsSide s
-  to_side None e f q = let z : ◌≡◌ {A = ℕ} 0 1 = cc in absurd (omega arith)
+  to_side None e f q = absurd cc
   to_side (Some g) e f q = as_side g e
 
   from_side : (r : Row) → first_side ds 0 ds ≡ r → AliasAsSide s → (f : GraphFault) × (flat_does r ≡ refused f)
@@ -189,14 +177,14 @@ module _ (s : State) (good : Good s) where
       omega arith
 
   -- labels
-  pub label_is : (v : Value) → label_at after v ≡ cond (live (at ds v)) label.Absent (retargeted ds (label_at s.graph v))
+  pub label_is : (v : Value) → label_at after v ≡ cond (live (at ds v)) None (retargeted ds (label_at s.graph v))
   label_is v =
       let p : 0 + v.0 ≡ v.0 = omega arith in
       relabelled_at ds s.graph.labels 0 v.0
-      ∙ ap (λ (n : ℕ). cond (live (at ds (value n))) label.Absent (retargeted ds (label_at s.graph v))) p
+      ∙ ap (λ (n : ℕ). cond (live (at ds (value n))) None (retargeted ds (label_at s.graph v))) p
 
   pub label_kept : (v : Value) → live (at ds v) ≡ false → label_at after v ≡ retargeted ds (label_at s.graph v)
-  label_kept v e = label_is v ∙ ap (λ (b : Bool). cond b label.Absent (retargeted ds (label_at s.graph v))) e
+  label_kept v e = label_is v ∙ ap (λ (b : Bool). cond b None (retargeted ds (label_at s.graph v))) e
 
   starts_are : (v : Value) → live (at ds v) ≡ false → items_of after.starts v.0 ≡ items_of s.graph.starts v.0
   starts_are v e =
@@ -205,9 +193,9 @@ module _ (s : State) (good : Good s) where
 
   unlabelled : (v : Value) → entry s.graph v ≡ None → entry after v ≡ None
   unlabelled v e =
-      let a : label_at s.graph v ≡ label.Absent = no_label (label_at s.graph v) (items_of s.graph.starts v.0) e in
-      ap (λ (l : Label). as_entry l (items_of after.starts v.0))
-      (label_is v ∙ ap (λ (l : Label). cond (live (at ds v)) label.Absent (retargeted ds l)) a ∙ absent_both (live (at ds v)))
+      let a : label_at s.graph v ≡ None = no_label (label_at s.graph v) (items_of s.graph.starts v.0) e in
+      ap (λ (l : Option Label). as_entry l (items_of after.starts v.0))
+      (label_is v ∙ ap (λ (l : Option Label). cond (live (at ds v)) None (retargeted ds l)) a ∙ sym (absent_either (live (at ds v))))
 
   pub flattened_is : Flattened s (flattened s)
   flattened_is = record {
@@ -240,21 +228,21 @@ module _ (s : State) (good : Good s) where
     marked_kept = λ i j k h q l e.
         argument_is i j k h q l ∙ ap (renamed_argument ends (get_or (arguments s.graph i j) k no_value)) e;
     labels_dropped = λ v o e.
-        ap (λ (l : Label). as_entry l (items_of after.starts v.0))
-        (label_is v ∙ ap (λ (b : Bool). cond b label.Absent (retargeted ds (label_at s.graph v))) (live_of (at ds v) o e));
+        ap (λ (l : Option Label). as_entry l (items_of after.starts v.0))
+        (label_is v ∙ ap (λ (b : Bool). cond b None (retargeted ds (label_at s.graph v))) (live_of (at ds v) o e));
     unlabelled_kept = λ v h e. unlabelled v e;
     starts_kept = λ v ss h n e.
         let d = not_live (at ds v) n in
         let p = some_starts (label_at s.graph v) (items_of s.graph.starts v.0) ss e in
-        ap (λ (l : Label). as_entry l (items_of after.starts v.0)) (label_kept v d ∙ ap (retargeted ds) p.0)
+        ap (λ (l : Option Label). as_entry l (items_of after.starts v.0)) (label_kept v d ∙ ap (retargeted ds) p.0)
         ∙ ap (λ (xs : List Start). Some (starts xs)) (starts_are v d ∙ p.1);
     targets_led = λ v target from h n e.
         let d = not_live (at ds v) n in
-        let p = some_alias (label_at s.graph v) (items_of s.graph.starts v.0) from target e in
+        let p = entry_label (label_at s.graph v) (items_of s.graph.starts v.0) from target e in
         let t = led s target good.home (good.alive.targets_are v target from h e) in (
           ends target,
           t.0,
-          ap (λ (l : Label). as_entry l (items_of after.starts v.0)) (label_kept v d ∙ ap (retargeted ds) p),
+          ap (λ (l : Option Label). as_entry l (items_of after.starts v.0)) (label_kept v d ∙ ap (retargeted ds) p),
           t.1,
         );
   }

@@ -26,38 +26,39 @@ use Rattle.model.proofs.UsesWords.{small_word}
 use Rattle.model.proofs.Defs.{usable_kind, root_usable}
 use Rattle.model.proofs.FlatLists.{all_count, all_others}
 use Rattle.model.proofs.FlatParts.{live_of, root_not_live, flat_live, flat_other, led, relabelled_length, starts_count, side_absent}
-use Rattle.model.proofs.Flat.{flattened_is, flat_at, keeps, argument_is, end_below, label_is, label_kept, some_alias}
+use Rattle.model.proofs.Flat.{flattened_is, flat_at, keeps, argument_is, end_below, label_is, label_kept}
+use Rattle.model.proofs.Uses.{entry_label}
 
 -- a definition that is no alias was there before
 flat_inv : (x d : ValueData) → flat x ≡ d → kind d ≡ Root → x ≡ d
 flat_inv x d e k = elim (cases_Bool (live x)) [
   | inl t ↦
       let g : kind d ≡ Gone = ap kind (sym (sym (flat_live x t) ∙ e)) in
-      let z : ◌≡◌ {A = ℕ} 0 1 = cc in absurd (omega arith)
+      absurd cc
   | inr f ↦ sym (flat_other x f) ∙ e
 ]
 
 -- no live alias is left
 flat_no_link : (x : ValueData) (o : Value) → kind (flat x) ≡ Link o → ⊥
 flat_no_link x o e = elim (cases_Bool (live x)) [
-  | inl t ↦ let g : Gone ≡ Link o = sym (ap kind (flat_live x t)) ∙ e in let z : ◌≡◌ {A = ℕ} 0 1 = cc in absurd (omega arith)
+  | inl t ↦ let g : Gone ≡ Link o = sym (ap kind (flat_live x t)) ∙ e in absurd cc
   | inr f ↦
       let g : live x ≡ true = live_of x o (sym (ap kind (flat_other x f)) ∙ e) in
-      let z : ◌≡◌ {A = ℕ} 0 1 = cc in absurd (omega arith)
+      absurd cc
 ]
 
 -- a usable value that is no live alias is a non-alias
 root_by : (k : Kind) → k ≢ Gone → is_link k ≡ false → k ≡ Root
 root_by Root g e = refl
-root_by (Link o) g e = let z : ◌≡◌ {A = ℕ} 0 1 = cc in absurd (omega arith)
+root_by (Link o) g e = absurd cc
 root_by Gone g e = absurd (g refl)
 
-retargeted_alias : (ds : List ValueData) (l : Label) (from : ℕ) (target : Value) → retargeted ds l ≡ label.Alias from target →
-    (old : Value) × (l ≡ label.Alias from old) × (end_of ds old ≡ target)
-retargeted_alias ds label.Absent from target e = let z : ◌≡◌ {A = ℕ} 0 1 = cc in absurd (omega arith)
-retargeted_alias ds label.Starts from target e = let z : ◌≡◌ {A = ℕ} 0 1 = cc in absurd (omega arith)
-retargeted_alias ds (label.Alias f old) from target e =
-    let p : f ≡ from = cc in let q : end_of ds old ≡ target = cc in (old, ap (λ (n : ℕ). label.Alias n old) p, q)
+retargeted_alias : (ds : List ValueData) (l : Option Label) (from : ℕ) (target : Value) → retargeted ds l ≡ Some (label.Alias from target) →
+    (old : Value) × (l ≡ Some (label.Alias from old)) × (end_of ds old ≡ target)
+retargeted_alias ds None from target e = absurd cc
+retargeted_alias ds (Some label.Starts) from target e = absurd cc
+retargeted_alias ds (Some (label.Alias f old)) from target e =
+    (old, cc, cc)
 
 module _ (s : State) (good : Good s) (unsided : first_side s.graph.defs 0 s.graph.defs ≡ None) where
   abbrev ds : List ValueData
@@ -93,7 +94,7 @@ module _ (s : State) (good : Good s) (unsided : first_side s.graph.defs 0 s.grap
           let w : get_or (arguments after.graph i j) k no_value ≡ get_or (arguments s.graph i j) k no_value =
           word ∙ ap (renamed_argument (end_of ds) (get_or (arguments s.graph i j) k no_value)) p in
           let g : None ≡ Some v = sym p ∙ (sym (ap value_argument w) ∙ e) in
-          let z : ◌≡◌ {A = ℕ} 0 1 = cc in absurd (omega arith)
+          absurd cc
       by (Some u) p =
           let usable = good.alive.arguments_are i j k u h q l p in
           let w : get_or (arguments after.graph i j) k no_value ≡ end_of ds u =
@@ -105,15 +106,15 @@ module _ (s : State) (good : Good s) (unsided : first_side s.graph.defs 0 s.grap
   target_remains : (v target : Value) (from : ℕ) → Exists ds v → entry after.graph v ≡ Some (alias from target) → Usable (map flat ds) target
   target_remains v target from h e = elim (cases_Bool (live (at ds v))) [
     | inl t ↦
-        let a : label_at after.graph v ≡ label.Absent =
-        label_is s good v ∙ ap (λ (b : Bool). cond b label.Absent (retargeted ds (label_at s.graph v))) t in
-        let g : None ≡ Some (alias from target) = sym (ap (λ (l : Label). as_entry l (items_of after.graph.starts v.0)) a) ∙ e in
-        let z : ◌≡◌ {A = ℕ} 0 1 = cc in absurd (omega arith)
+        let a : label_at after.graph v ≡ None =
+        label_is s good v ∙ ap (λ (b : Bool). cond b None (retargeted ds (label_at s.graph v))) t in
+        let g : None ≡ Some (alias from target) = sym (ap (λ (l : Option Label). as_entry l (items_of after.graph.starts v.0)) a) ∙ e in
+        absurd cc
     | inr f ↦
-        let l = some_alias (label_at after.graph v) (items_of after.graph.starts v.0) from target e in
+        let l = entry_label (label_at after.graph v) (items_of after.graph.starts v.0) from target e in
         let t = retargeted_alias ds (label_at s.graph v) from target (sym (label_kept s good v f) ∙ l) in
         let old : entry s.graph v ≡ Some (alias from t.0) =
-        ap (λ (l : Label). as_entry l (items_of s.graph.starts v.0)) t.1 in
+        ap (λ (l : Option Label). as_entry l (items_of s.graph.starts v.0)) t.1 in
         subst (Usable (map flat ds)) t.2 (end_remains t.0 (good.alive.targets_are v t.0 from h old))
   ]
 

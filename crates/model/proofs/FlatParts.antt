@@ -1,5 +1,5 @@
 -- Liveness, usable values and what they lead to, and the parts of a flattened graph.
-use Rattle.std.proofs.Common.{◌≡◌, ℕ, zero, suc, ◌+◌, ◌<◌, Bool, true, false, cond, ◌≢◌, ◌⊎◌, List, [], ◌∷◌, ◌++◌, length, get_or, Some, None, sym, refl, ap, ◌∙◌, subst, inl, inr, not-suc-le-zero, arith}
+use Rattle.std.proofs.Common.{◌≡◌, ℕ, zero, suc, ◌+◌, ◌<◌, Bool, true, false, cond, ◌≢◌, ◌⊎◌, List, [], ◌∷◌, ◌++◌, length, get_or, Some, None, sym, refl, ap, ◌∙◌, subst, inl, inr, not-suc-le-zero, arith, Option}
 use Rattle.std.proofs.lemmas.Bool.{or_cases, or_left, or_right, cases_Bool}
 use Rattle.ir.specs.declared.entities.Value.{Value}
 use Rattle.ir.specs.declared.entities.Type.{«Type» as Ty}
@@ -17,7 +17,6 @@ use Rattle.model.specs.declared.fault.GraphFault.{GraphFault}
 use Rattle.model.specs.declared.fault.GraphFault.TheVariants.{Side}
 use Rattle.model.specs.declared.labels.Start.{Start}
 use Rattle.model.specs.declared.labels.Label.{Label}
-use Rattle.model.specs.declared.labels.Label.TheVariants as label
 use Rattle.model.specs.Refusals.{first_among}
 use Rattle.model.specs.State.{State, value, no_value}
 use Rattle.model.specs.Flattening.{is_link, live, flat, all_operands, retargeted, relabelled, starts_dropped, alias_side, first_side}
@@ -27,9 +26,9 @@ use Rattle.model.proofs.Defs.{usable_kind, usable_leads}
 
 -- live aliases
 link_inv : (k : Kind) → is_link k ≡ true → (o : Value) × (k ≡ Link o)
-link_inv Root e = let z : ◌≡◌ {A = ℕ} 0 1 = cc in absurd (omega arith)
+link_inv Root e = absurd cc
 link_inv (Link o) e = (o, refl)
-link_inv Gone e = let z : ◌≡◌ {A = ℕ} 0 1 = cc in absurd (omega arith)
+link_inv Gone e = absurd cc
 
 pub live_inv : (d : ValueData) → live d ≡ true → (o : Value) × (kind d ≡ Link o)
 live_inv d e = link_inv (kind d) e
@@ -53,11 +52,11 @@ pub flat_other : (d : ValueData) → live d ≡ false → flat d ≡ d
 flat_other d e = ap (λ (b : Bool). cond b retired_mark d) e
 
 -- the retired mark stops a walk
-retired_gone : (d : ValueData) → retired d ≡ true → kind d ≡ Gone
-retired_gone (Inst ty n i) e = let z : ◌≡◌ {A = ℕ} 0 1 = cc in absurd (omega arith)
-retired_gone (Param ty n b) e = let z : ◌≡◌ {A = ℕ} 0 1 = cc in absurd (omega arith)
+pub retired_gone : (d : ValueData) → retired d ≡ true → kind d ≡ Gone
+retired_gone (Inst ty n i) e = absurd cc
+retired_gone (Param ty n b) e = absurd cc
 retired_gone (Alias ty o) e = ap (λ (b : Bool). cond b Gone (Link o)) e
-retired_gone (Union ty x y) e = let z : ◌≡◌ {A = ℕ} 0 1 = cc in absurd (omega arith)
+retired_gone (Union ty x y) e = absurd cc
 
 pub usable_not_retired : (ds : List ValueData) (v : Value) → Usable ds v → retired (at ds v) ≡ false
 usable_not_retired ds v u = elim (cases_Bool (retired (at ds v))) [
@@ -73,21 +72,21 @@ led s v h u =
     (t.1, subst (λ (r : Value). Leads s.graph.defs v r t.1) (sym (end_reached s.graph.defs v t.0 t.1 t.2)) t.2)
 
 -- labels by number
-absent_either : (b : Bool) → label.Absent ≡ cond b label.Absent label.Absent
+pub absent_either : (b : Bool) → ◌≡◌ {A = Option Label} None (cond b None None)
 absent_either true = refl
 absent_either false = refl
 
-pub relabelled_at : (ds : List ValueData) (ls : List Label) (n k : ℕ) →
-    get_or (relabelled ds n ls) k label.Absent ≡ cond (live (at ds (value (n + k)))) label.Absent (retargeted ds (get_or ls k label.Absent))
+pub relabelled_at : (ds : List ValueData) (ls : List (Option Label)) (n k : ℕ) →
+    get_or (relabelled ds n ls) k None ≡ cond (live (at ds (value (n + k)))) None (retargeted ds (get_or ls k None))
 relabelled_at ds [] n k = absent_either (live (at ds (value (n + k))))
 relabelled_at ds (l ∷ ls) n zero =
     let p : n ≡ n + 0 = omega arith in
-    ap (λ (m : ℕ). cond (live (at ds (value m))) label.Absent (retargeted ds l)) p
+    ap (λ (m : ℕ). cond (live (at ds (value m))) None (retargeted ds l)) p
 relabelled_at ds (l ∷ ls) n (suc k) =
     let p : (n + 1) + k ≡ n + suc k = omega arith in
-    relabelled_at ds ls (n + 1) k ∙ ap (λ (m : ℕ). cond (live (at ds (value m))) label.Absent (retargeted ds (get_or ls k label.Absent))) p
+    relabelled_at ds ls (n + 1) k ∙ ap (λ (m : ℕ). cond (live (at ds (value m))) None (retargeted ds (get_or ls k None))) p
 
-pub relabelled_length : (ds : List ValueData) (ls : List Label) (n : ℕ) → length (relabelled ds n ls) ≡ length ls
+pub relabelled_length : (ds : List ValueData) (ls : List (Option Label)) (n : ℕ) → length (relabelled ds n ls) ≡ length ls
 relabelled_length ds [] n = refl
 relabelled_length ds (l ∷ ls) n = ap suc (relabelled_length ds ls (n + 1))
 
@@ -106,7 +105,7 @@ starts_stay [] n l b h = refl
 starts_stay (d ∷ ds) n l b h =
     starts_stay ds (n + 1) l (cond (live d) (cleared b n) b) (λ k q e. h (suc k) (omega arith) (omega arith))
     ∙ drop_one (live d) b n l (λ t e.
-    let f : live d ≡ false = h 0 (omega arith) (omega arith) in let z : ◌≡◌ {A = ℕ} 0 1 = cc in absurd (omega arith))
+    let f : live d ≡ false = h 0 (omega arith) (omega arith) in absurd cc)
 
 pub starts_count : (ds : List ValueData) (n : ℕ) (b : Bank Start) → length (starts_dropped n ds b).lists ≡ length b.lists
 starts_count [] n b = refl
@@ -115,9 +114,9 @@ starts_count (d ∷ ds) n b = starts_count ds (n + 1) (cond (live d) (cleared b 
 -- a union with a live side
 pub side_inv : (ds : List ValueData) (d : ValueData) → alias_side ds d ≡ true →
     (ty : Ty) × (x : Value) × (y : Value) × (d ≡ Union ty x y) × ((live (at ds x) ≡ true) ⊎ (live (at ds y) ≡ true))
-side_inv ds (Inst ty n i) e = let z : ◌≡◌ {A = ℕ} 0 1 = cc in absurd (omega arith)
-side_inv ds (Param ty n b) e = let z : ◌≡◌ {A = ℕ} 0 1 = cc in absurd (omega arith)
-side_inv ds (Alias ty o) e = let z : ◌≡◌ {A = ℕ} 0 1 = cc in absurd (omega arith)
+side_inv ds (Inst ty n i) e = absurd cc
+side_inv ds (Param ty n b) e = absurd cc
+side_inv ds (Alias ty o) e = absurd cc
 side_inv ds (Union ty x y) e = (ty, x, y, refl, or_cases (live (at ds x)) (live (at ds y)) e)
 
 pub side_of : (ds : List ValueData) (d : ValueData) (ty : Ty) (x y : Value) → d ≡ Union ty x y →
@@ -128,7 +127,7 @@ side_of ds d ty x y e (inr p) = ap (alias_side ds) e ∙ or_right (live (at ds x
 -- the search finds one where there is one, and else nothing
 pub side_found : (all ds : List ValueData) (n : ℕ) (f : GraphFault) → first_side all n ds ≡ Some f →
     (k : ℕ) × (k < length ds) × (alias_side all (get_or ds k retired_mark) ≡ true)
-side_found all [] n f e = let z : ◌≡◌ {A = ℕ} 0 1 = cc in absurd (omega arith)
+side_found all [] n f e = absurd cc
 side_found all (d ∷ ds) n f e = by (alias_side all d) refl e (side_found all ds (n + 1) f)
   where
     by : (b : Bool) → alias_side all d ≡ b → cond b (Some (Side n)) (first_side all (n + 1) ds) ≡ Some f →
@@ -146,7 +145,7 @@ side_absent all (d ∷ ds) n e k h = by (alias_side all d) refl e k h (side_abse
         (k : ℕ) → k < length (d ∷ ds) →
         (first_side all (n + 1) ds ≡ None → (k : ℕ) → k < length ds → alias_side all (get_or ds k retired_mark) ≡ false) →
         alias_side all (get_or (d ∷ ds) k retired_mark) ≡ false
-    by true p q k h r = let z : ◌≡◌ {A = ℕ} 0 1 = cc in absurd (omega arith)
+    by true p q k h r = absurd cc
     by false p q zero h r = p
     by false p q (suc k) h r = r q k (omega arith)
 

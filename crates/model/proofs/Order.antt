@@ -10,7 +10,7 @@ use Rattle.table.specs.Table.{Table}
 use Rattle.values.specs.declared.kind.Kind.{Kind}
 use Rattle.values.specs.declared.kind.Kind.TheVariants.{Root, Link, Gone}
 use Rattle.values.specs.Leads.{kind, at, Exists, NonAlias, LiveAlias, Leads, here, step, leads_to}
-use Rattle.values.proofs.Ways.{leads_some, some_leads, at_other, kind_other, non_alias_exists, live_alias_exists}
+use Rattle.values.proofs.Ways.{same_value, leads_some, some_leads, at_other, kind_other, non_alias_exists, live_alias_exists}
 use Rattle.renaming.specs.Renames.{end_of}
 use Rattle.model.specs.declared.fault.GraphFault.{GraphFault}
 use Rattle.model.specs.declared.fault.GraphFault.TheVariants.{Unknown, Retired}
@@ -22,7 +22,7 @@ use Rattle.model.specs.Laws.{AliasesLeadHome, Aliasing, Accepted, none, more, Aw
 use Rattle.model.proofs.Rows.{Passes, graph_done, when_none, first_of_none}
 use Rattle.model.proofs.Invariant.{Good}
 use Rattle.model.proofs.OrderSwap.{to, moved}
-use Rattle.model.proofs.Defs.{cases_value, same_value}
+use Rattle.model.proofs.Defs.{cases_value}
 use Rattle.model.proofs.OrderTable.{gone_retired, root_usable, link_usable, Step, effect}
 use Rattle.model.proofs.OrderRuns.{Linked, nothing, next, any_order}
 use Rattle.model.proofs.OrderFlat.{flatten_alike}
@@ -36,7 +36,7 @@ abbrev Homes : List ValueData → Type 0
 Homes vs = (v : Value) → retired (at vs v) ≡ false → (r : Value) × (leads_to vs v ≡ Some r)
 
 not_gone : {A : Type 0} (x : ValueData) → retired x ≡ false → kind x ≡ Gone → A
-not_gone x e k = let f = gone_retired x k in let z : ◌≡◌ {A = ℕ} 0 1 = cc in absurd (omega arith)
+not_gone x e k = let f = gone_retired x k in absurd cc
 
 homes_of : (s : State) → AliasesLeadHome s → Homes s.graph.defs
 homes_of s home v e = by (kind (at s.graph.defs v)) refl
@@ -137,8 +137,8 @@ module _ (g : Graph) (tb : Table) (vs : List ValueData) (a : Aliasing) (r : Valu
   source_lives Gone k = dead (some_leads vs a.source r st.leads).1 k
     where
       dead : {A : Type 0} {v q : Value} {n : ℕ} → Leads vs v q n → kind (at vs v) ≡ Gone → A
-      dead (here e) f = let z : ◌≡◌ {A = ℕ} 0 1 = cc in absurd (omega arith)
-      dead (step e l) f = let z : ◌≡◌ {A = ℕ} 0 1 = cc in absurd (omega arith)
+      dead (here e) f = absurd cc
+      dead (step e l) f = absurd cc
 
   differ_not : types_differ (with_defs g vs) a.dest (end_of vs a.source) ≡ false
   differ_not =

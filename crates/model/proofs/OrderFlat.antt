@@ -1,5 +1,5 @@
 -- Similar tables flatten alike.
-use Rattle.std.proofs.Common.{◌≡◌, ℕ, zero, suc, ◌+◌, Bool, true, false, cond, ◌||◌, leb, List, [], ◌∷◌, map, Some, None, Option, unwrap_or, sym, refl, ap, ◌∙◌, inl, inr, arith, ext_get_or}
+use Rattle.std.proofs.Common.{◌≡◌, ℕ, zero, suc, ◌+◌, Bool, true, false, cond, ◌||◌, leb, List, [], ◌∷◌, map, Some, None, Option, unwrap_or, sym, refl, ap, ◌∙◌, inl, inr, ext_get_or}
 use mathlib.Core.Path.{fun_ext}
 use lib.ListN.{length-map, get_or-map}
 use Rattle.ir.specs.declared.entities.Value.{Value}
@@ -18,22 +18,19 @@ use Rattle.model.specs.declared.labels.Label.TheVariants as label
 use Rattle.model.specs.Refusals.{Row, first_among, first, done, refused, unless}
 use Rattle.model.specs.State.{Graph, State, value, inst}
 use Rattle.model.specs.Edits.{with_defs, calls_renamed, counts_differ}
-use Rattle.model.specs.Flattening.{live, is_link, flat, all_operands, table_renamed, all_calls_renamed, retargeted, relabelled}
+use Rattle.model.specs.Flattening.{live, flat, all_operands, table_renamed, all_calls_renamed, retargeted, relabelled}
 use Rattle.model.specs.Flattening.{starts_dropped, alias_side, first_side, flatten_rows, flattened}
 use Rattle.model.specs.Runs.{does, plain, is_plain, on_state, resolve_all_aliases, Equal}
 use Rattle.model.specs.Laws.{FlattenAlike, both_refused, both_equal}
 use Rattle.model.proofs.OrderTable.{link_usable}
 use Rattle.model.proofs.OrderSimilar.{Like, Similar}
-
--- what a live alias is
-link_live : (x : ValueData) (o : Value) → kind x ≡ Link o → live x ≡ true
-link_live x o e = ap is_link e
+use Rattle.model.proofs.FlatParts.{live_of}
 
 link_no_side : (vs : List ValueData) (x : ValueData) (o : Value) → kind x ≡ Link o → alias_side vs x ≡ false
 link_no_side vs (Inst ty n i) o e = refl
 link_no_side vs (Param ty n b) o e = refl
 link_no_side vs (Alias ty p) o e = refl
-link_no_side vs (Union ty x y) o e = let z : ◌≡◌ {A = ℕ} 0 1 = cc in absurd (omega arith)
+link_no_side vs (Union ty x y) o e = absurd cc
 
 -- a function that has one answer for all live aliases does not tell like definitions apart
 like_by : {B : Type 0} (f : ValueData → B) (b : B) → ((x : ValueData) (o : Value) → kind x ≡ Link o → f x ≡ b) →
@@ -42,10 +39,10 @@ like_by f b h (inl p) = ap f p
 like_by f b h {x} {y} (inr t) = h x t.0 t.2 ∙ sym (h y t.1 t.3)
 
 like_live : {x y : ValueData} → Like x y → live x ≡ live y
-like_live l = like_by live true link_live l
+like_live l = like_by live true live_of l
 
 like_flat : {x y : ValueData} → Like x y → flat x ≡ flat y
-like_flat l = like_by flat retired_mark (λ x o e. ap (λ (b : Bool). cond b retired_mark x) (link_live x o e)) l
+like_flat l = like_by flat retired_mark (λ x o e. ap (λ (b : Bool). cond b retired_mark x) (live_of x o e)) l
 
 -- steps of a refusal or a drop, over what they read of the definitions
 abbrev lowest : ℕ → List Bool → Row
@@ -97,15 +94,15 @@ module _ (vs ws : List ValueData) (si : Similar vs ws) where
   retargeted_same : retargeted vs ≡ retargeted ws
   retargeted_same = fun_ext by
     where
-      by : (l : Label) → retargeted vs l ≡ retargeted ws l
-      by label.Absent = refl
-      by label.Starts = refl
-      by (label.Alias from target) = λ i. label.Alias from (ends_same i target)
+      by : (l : Option Label) → retargeted vs l ≡ retargeted ws l
+      by None = refl
+      by (Some label.Starts) = refl
+      by (Some (label.Alias from target)) = λ i. Some (label.Alias from (ends_same i target))
 
-  relabelled_same : (n : ℕ) (ls : List Label) → relabelled vs n ls ≡ relabelled ws n ls
+  relabelled_same : (n : ℕ) (ls : List (Option Label)) → relabelled vs n ls ≡ relabelled ws n ls
   relabelled_same n [] = refl
   relabelled_same n (l ∷ ls) =
-      λ i. cond (live_same (value n) i) label.Absent (retargeted_same i l) ∷ relabelled_same (n + 1) ls i
+      λ i. cond (live_same (value n) i) None (retargeted_same i l) ∷ relabelled_same (n + 1) ls i
 
   starts_same : (b : Bank Start) → starts_dropped 0 vs b ≡ starts_dropped 0 ws b
   starts_same b =

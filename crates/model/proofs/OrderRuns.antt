@@ -1,5 +1,5 @@
 -- Runs of aliasings whose destinations are no aliases, in any order.
-use Rattle.std.proofs.Common.{◌≡◌, ℕ, List, [], ◌∷◌, Some, None, Option, sym, refl, ◌∙◌, subst, subst₂, arith}
+use Rattle.std.proofs.Common.{◌≡◌, List, [], ◌∷◌, Some, None, Option, sym, refl, ◌∙◌, subst, subst₂}
 use mathlib.Core.List.{Permᴰ}
 use Rattle.ir.specs.declared.entities.Value.{Value}
 use Rattle.ir.specs.declared.value_data.ValueData.{ValueData}
@@ -45,7 +45,7 @@ relink {g} (next {vs = vs} {a = a} r st l) us si =
     (i.0, next r (similar_step g vs us a r si st) i.1, i.2)
 
 moved_inv : (d r p : Value) (x : Option Value) → moved d r x ≡ Some p → (q : Value) × (x ≡ Some q) × (to d r q ≡ p)
-moved_inv d r p None e = let z : ◌≡◌ {A = ℕ} 0 1 = cc in absurd (omega arith)
+moved_inv d r p None e = absurd cc
 moved_inv d r p (Some q) e = (q, refl, cc)
 
 -- the first two the other way round

@@ -14,7 +14,7 @@ use Rattle.model.specs.Edits.{aliased}
 use Rattle.model.specs.Laws.{Aliasing}
 use Rattle.model.proofs.OrderSwap.{to, moved, Near, swap_apart₁, swap_apart₂, swap_type₁, swap_type₂, swap_moved}
 use Rattle.model.proofs.Defs.{cases_value}
-use Rattle.model.proofs.OrderTable.{apart_numbers, clash, Step, effect, alias_placed, type_placed}
+use Rattle.model.proofs.OrderTable.{apart_numbers, Step, effect, alias_placed, type_placed}
 
 -- one definition, or two live aliases of one type
 abbrev pub Like : ValueData → ValueData → Type 0
@@ -32,7 +32,7 @@ like_type (inr t) = t.4
 -- what is no alias is the same
 like_root : {x y : ValueData} → Like x y → kind x ≡ Root → x ≡ y
 like_root (inl p) e = p
-like_root {x} (inr t) e = clash (kind x) t.0 e t.2
+like_root {x} (inr t) e = let k : kind x ≡ Link t.0 = t.2 in absurd cc
 
 like_trans : {x y z : ValueData} → Like x y → Like y z → Like x z
 like_trans (inl p) (inl q) = inl (p ∙ q)
@@ -97,7 +97,8 @@ module _ (g : Graph) (vs : List ValueData) (a₁ a₂ : Aliasing) (r₁ q₂ : V
 
   differ : a₁.dest ≢ a₂.dest
   differ p =
-      clash (kind (at one a₁.dest)) r₁ (ap (λ (v : Value). kind (at one v)) p ∙ s₂.root) (alias_placed g vs a₁ r₁ s₁)
+      let root : kind (at one a₁.dest) ≡ Root = ap (λ (v : Value). kind (at one v)) p ∙ s₂.root in
+      let link : kind (at one a₁.dest) ≡ Link r₁ = alias_placed g vs a₁ r₁ s₁ in cc
 
   differ' : a₂.dest ≢ a₁.dest
   differ' p = differ (sym p)

@@ -1,20 +1,20 @@
 -- One aliasing of a value that is no alias, as it acts on what each value leads to.
-use Rattle.std.proofs.Common.{◌≡◌, ℕ, zero, suc, Bool, true, false, cond, ◌≢◌, List, [], ◌∷◌, get_or, set, Some, None, Option, sym, refl, ap, ◌∙◌, inl, inr, arith}
-use Rattle.std.proofs.lemmas.Bool.{eq-eqb, ne_eqb}
+use Rattle.std.proofs.Common.{◌≡◌, ℕ, suc, true, false, ◌≢◌, List, Some, None, Option, sym, refl, ap, ◌∙◌, inl, inr}
+use Rattle.std.proofs.lemmas.Bool.{eq-eqb, ne_eqb, cases_Bool}
 use Rattle.ir.specs.declared.entities.Value.{Value}
 use Rattle.ir.specs.declared.entities.Type.{«Type» as Ty}
 use Rattle.ir.specs.declared.value_data.ValueData.{ValueData}
-use Rattle.ir.specs.declared.value_data.ValueData.TheVariants.{Inst, Param, Alias, Union}
-use Rattle.ir.specs.Packing.{type, retired, retired_mark}
-use Rattle.values.specs.declared.kind.Kind.{Kind}
+use Rattle.ir.specs.declared.value_data.ValueData.TheVariants.{Alias}
+use Rattle.ir.specs.Packing.{type, retired}
 use Rattle.values.specs.declared.kind.Kind.TheVariants.{Root, Link, Gone}
 use Rattle.values.specs.Leads.{kind, at, NonAlias, Leads, here, step, leads_to}
-use Rattle.values.proofs.Ways.{leads_some, some_leads, end, at_same, kind_other, non_alias_exists}
+use Rattle.values.proofs.Ways.{same_value, leads_some, some_leads, end, at_same, kind_other, non_alias_exists}
 use Rattle.model.specs.State.{Graph, attached_by}
 use Rattle.model.specs.Edits.{aliased}
 use Rattle.model.specs.Laws.{Aliasing}
-use Rattle.model.proofs.Defs.{same_value, cases_value}
+use Rattle.model.proofs.Defs.{cases_value, gone_mark, type_set, typed_link}
 use Rattle.model.proofs.OrderSwap.{to, moved}
+use Rattle.model.proofs.FlatParts.{retired_gone}
 
 -- different values have different numbers
 pub apart_numbers : (v w : Value) → v ≢ w → v.0 ≢ w.0
@@ -26,39 +26,18 @@ to_here d r q p = rw (eq-eqb q.0 d.0 (ap (λ (x : Value). x.0) p))
 to_other : (d r q : Value) → q ≢ d → to d r q ≡ q
 to_other d r q h = rw (ne_eqb q.0 d.0 (apart_numbers q d h))
 
-pub clash : {A : Type 0} (k : Kind) (o : Value) → k ≡ Root → k ≡ Link o → A
-clash k o e f = let z : ◌≡◌ {A = ℕ} 0 1 = cc in absurd (omega arith)
-
 -- every definition but the retired mark may be used
-pub usable : (x : ValueData) → (kind x ≡ Gone → ⊥) → retired x ≡ false
-usable (Inst ty n i) h = refl
-usable (Param ty n b) h = refl
-usable (Alias ty o) h = by (retired (Alias ty o)) refl
-  where
-    by : (b : Bool) → retired (Alias ty o) ≡ b → retired (Alias ty o) ≡ false
-    by true e = absurd (h (ap (λ (b : Bool). cond b Gone (Link o)) e))
-    by false e = e
-usable (Union ty x y) h = refl
+usable : (x : ValueData) → (kind x ≡ Gone → ⊥) → retired x ≡ false
+usable x h = elim (cases_Bool (retired x)) [ inl e ↦ absurd (h (retired_gone x e)) | inr e ↦ e ]
 
 pub gone_retired : (x : ValueData) → kind x ≡ Gone → retired x ≡ true
-gone_retired (Inst ty n i) e = let z : ◌≡◌ {A = ℕ} 0 1 = cc in absurd (omega arith)
-gone_retired (Param ty n b) e = let z : ◌≡◌ {A = ℕ} 0 1 = cc in absurd (omega arith)
-gone_retired (Alias ty o) e = by (retired (Alias ty o)) e refl
-  where
-    by : (b : Bool) → cond b Gone (Link o) ≡ Gone → retired (Alias ty o) ≡ b → retired (Alias ty o) ≡ true
-    by true q f = f
-    by false q f = let z : ◌≡◌ {A = ℕ} 0 1 = cc in absurd (omega arith)
-gone_retired (Union ty x y) e = let z : ◌≡◌ {A = ℕ} 0 1 = cc in absurd (omega arith)
+gone_retired x e = ap retired (gone_mark x e)
 
 pub root_usable : (x : ValueData) → kind x ≡ Root → retired x ≡ false
-root_usable x e = usable x (λ f. let z : ◌≡◌ {A = ℕ} 0 1 = cc in absurd (omega arith))
+root_usable x e = usable x (λ f. cc)
 
 pub link_usable : (x : ValueData) (o : Value) → kind x ≡ Link o → retired x ≡ false
-link_usable x o e = usable x (λ f. let z : ◌≡◌ {A = ℕ} 0 1 = cc in absurd (omega arith))
-
--- an alias with a type is live
-kind_alias : (ty : Ty) (o : Value) → ty.0 ≢ 0 → kind (Alias ty o) ≡ Link o
-kind_alias ty o h = rw (ne_eqb ty.0 0 h)
+link_usable x o e = usable x (λ f. cc)
 
 -- An aliasing of a value that is no alias now, of what the source leads to; g has the lists.
 pub record Step (g : Graph) (vs : List ValueData) (a : Aliasing) (r : Value) : Type 0 where
@@ -68,15 +47,6 @@ pub record Step (g : Graph) (vs : List ValueData) (a : Aliasing) (r : Value) : T
   pub leads : leads_to vs a.source ≡ Some r
   pub apart : r ≢ a.dest
   pub same : type (at vs r) ≡ type (at vs a.dest)
-
--- all definitions keep their types where one is put in place of one of its type
-type_set : (vs : List ValueData) (n : ℕ) (x : ValueData) → type x ≡ type (get_or vs n retired_mark) →
-    (k : ℕ) → type (get_or (set vs n x) k retired_mark) ≡ type (get_or vs k retired_mark)
-type_set [] n x e k = refl
-type_set (y ∷ ys) zero x e zero = e
-type_set (y ∷ ys) zero x e (suc k) = refl
-type_set (y ∷ ys) (suc n) x e zero = refl
-type_set (y ∷ ys) (suc n) x e (suc k) = type_set ys n x e k
 
 -- What an aliasing does: what led to d now leads to r.
 module _ (g : Graph) (vs : List ValueData) (a : Aliasing) (r : Value) (st : Step g vs a r) where
@@ -89,7 +59,7 @@ module _ (g : Graph) (vs : List ValueData) (a : Aliasing) (r : Value) (st : Step
   pub alias_placed : kind (at after a.dest) ≡ Link r
   alias_placed =
       ap kind (at_same vs a.dest new (non_alias_exists vs a.dest st.root))
-      ∙ kind_alias (type (at vs r)) r (λ z. st.typed (ap (λ (ty : Ty). ty.0) (sym st.same) ∙ z))
+      ∙ typed_link (type (at vs r)) r (λ z. st.typed (ap (λ (ty : Ty). ty.0) (sym st.same) ∙ z))
 
   pub type_placed : (v : Value) → type (at after v) ≡ type (at vs v)
   type_placed v = type_set vs a.dest.0 new st.same v.0
@@ -104,7 +74,7 @@ module _ (g : Graph) (vs : List ValueData) (a : Aliasing) (r : Value) (st : Step
   ]
   fore (step {v = v} {original = o} k l) =
       let i = fore l in
-      let ne : v ≢ a.dest = λ p. clash (kind (at vs v)) o (ap (λ (w : Value). kind (at vs w)) p ∙ st.root) k in
+      let ne : v ≢ a.dest = λ p. let e : kind (at vs v) ≡ Root = ap (λ (w : Value). kind (at vs w)) p ∙ st.root in cc in
       (suc i.0, step (kind_other vs a.dest v new ne ∙ k) i.1)
 
   back : {v q : Value} {n : ℕ} → Leads after v q n → (p : Value) × (m : ℕ) × Leads vs v p m
@@ -129,4 +99,4 @@ module _ (g : Graph) (vs : List ValueData) (a : Aliasing) (r : Value) (st : Step
       by None p (Some q) z =
           let t = back (some_leads after v q z).1 in
           let w : leads_to vs v ≡ Some t.0 = leads_some t.2 in
-          let zz : ◌≡◌ {A = ℕ} 0 1 = cc in absurd (omega arith)
+          absurd cc

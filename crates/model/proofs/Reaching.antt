@@ -1,24 +1,23 @@
 -- Every state that edits alone reach from a new one is lawful.
-use Rattle.std.proofs.Common.{◌≡◌, ℕ, ◌<◌, ◌≢◌, ◌⊎◌, List, [], length, get_or, replicate, Result, sym, refl, ap, ◌∙◌, subst, inl, inr, not-suc-le-zero, arith}
-use Rattle.std.proofs.lemmas.List.{get_or_past, get_or-replicate, length-replicate}
-use Rattle.std.proofs.lemmas.Bool.{cases_lt}
+use Rattle.std.proofs.Common.{◌≡◌, ℕ, ◌<◌, List, [], length, get_or, Result, sym, ap, ◌∙◌, subst, inl, inr, not-suc-le-zero, arith, None}
+use Rattle.std.proofs.lemmas.List.{length-replicate}
 use Rattle.ir.specs.declared.entities.Value.{Value}
 use Rattle.ir.specs.declared.value_data.ValueData.{ValueData}
 use Rattle.ir.specs.declared.value_data.ValueData.TheVariants.{Inst, Param, Union}
 use Rattle.ir.specs.Packing.{retired_mark}
-use Rattle.store.specs.Bank.{Bank, Owned, nothing, fresh}
+use Rattle.store.specs.Bank.{Bank, nothing}
 use Rattle.values.specs.declared.kind.Kind.TheVariants.{Link, Gone}
 use Rattle.values.specs.Leads.{at, kind}
+use Rattle.model.specs.declared.labels.Start.{Start}
 use Rattle.model.specs.declared.fault.GraphFault.{GraphFault}
-use Rattle.model.specs.declared.labels.Label.TheVariants as label
 use Rattle.model.specs.Refusals.{done}
 use Rattle.model.specs.State.{State}
-use Rattle.model.specs.Runs.{Edit, Answer, is_plain, does, make_block, make_inst, make_inst_results, clear_results, replace_result, replace_block_param, remove_block_param, swap_remove_block_param, append_block_param, attach_block_param, detach_block_params, clone_inst, append_argument, remove, map_inst_values, overwrite_inst_values, change_to_alias, replace_with_aliases, union, set_label, resolve_all_aliases, Steps, accepted, declined, Runs, nothing as no-edit, next, New}
+use Rattle.model.specs.Runs.{Edit, Answer, is_plain, does, resolve_all_aliases, Steps, accepted, declined, Runs, nothing as no-edit, next, New}
 use Rattle.model.specs.Flattening.{flatten_rows, flattened}
 use Rattle.model.specs.Laws.{Lawful, LawsOverRuns}
 use Rattle.model.proofs.Rows.{state_done}
 use Rattle.model.proofs.Invariant.{Good}
-use Rattle.model.proofs.DefsEdits.{defs_kept}
+use Rattle.model.proofs.DefsEdits.{defs_kept, DefsKept}
 use Rattle.model.proofs.Seats.{SeatsKept}
 use Rattle.model.proofs.SeatsEach.{seats_each}
 use Rattle.model.proofs.Uses.{SpareLabels, UsesKept}
@@ -27,30 +26,12 @@ use Rattle.model.proofs.UsesEnds.{uses_new, flat_unlabelled}
 use Rattle.model.proofs.Flat.{flattening_law}
 use Rattle.model.proofs.FlatKeeps.{good_flattened}
 use Rattle.model.proofs.Order.{order_does_not_matter}
+use Rattle.model.proofs.Banks.{fresh_count, fresh_at}
 
 -- what every edit keeps, and that what does not exist has no label
 pub record Tidy (s : State) : Type 0 where
   pub good : Good s
   pub unlabelled : SpareLabels s.graph
-
--- a new pool
-fresh_lists : {T : Type 0} (n left : ℕ) → (fresh {T = T} n left).lists ≡ replicate n nothing
-unfolding fresh
-fresh_lists n left = refl
-
-fresh_at : {T : Type 0} (b : Bank T) (n left l : ℕ) → b ≡ fresh n left → get_or b.lists l nothing ≡ nothing
-fresh_at {T} b n left l e =
-    ap (λ (c : Bank _). get_or c.lists l nothing) e ∙ (ap (λ (os : List (Owned _)). get_or os l nothing) (fresh_lists n left) ∙ by)
-  where
-    by : get_or (replicate n (nothing {T = T})) l nothing ≡ nothing
-    by = elim (cases_lt l n) [
-      | inl h ↦ get_or-replicate n l nothing nothing h
-      | inr h ↦ get_or_past (replicate n (nothing {T = T})) l nothing (simp length-replicate h)
-    ]
-
-fresh_count : {T : Type 0} (b : Bank T) (n left : ℕ) → b ≡ fresh n left → length b.lists ≡ n
-fresh_count b n left e =
-    ap (λ (c : Bank _). length c.lists) e ∙ (ap (λ (os : List (Owned _)). length os) (fresh_lists n left) ∙ length-replicate n nothing)
 
 -- where there are no values, nothing is defined
 no_definition : (ds : List ValueData) (v : Value) → ds ≡ [] → at ds v ≡ retired_mark
@@ -61,8 +42,9 @@ tidy_new s new =
     let uses = uses_new s new in
     let none = λ (v : Value). no_definition s.graph.defs v new.no_values in
     let values : length s.graph.defs ≡ 0 = ap (λ (ds : List ValueData). length ds) new.no_values in
-    let lists = fresh_count s.graph.words new.lists new.cells new.empty_words in
-    let start_lists = fresh_count s.graph.starts new.start_lists new.start_cells new.empty_starts in
+    let lists : length s.graph.words.lists ≡ new.lists = ap (λ (b : Bank Value). length b.lists) new.empty_words ∙ fresh_count Value new.lists new.cells in
+    let start_lists : length s.graph.starts.lists ≡ new.start_lists = ap (λ (b : Bank Start). length b.lists) new.empty_starts ∙ fresh_count Start new.start_lists new.start_cells in
+    let empty = λ (l : ℕ). ap (λ (b : Bank Value). get_or b.lists l nothing) new.empty_words ∙ fresh_at Value new.lists new.cells l in
     record {
       good = record {
         sized = record {
@@ -71,18 +53,18 @@ tidy_new s new =
           blocks_fit = omega (arith, new.no_blocks);
           insts_fit = omega (arith, new.no_insts);
           lists_enough = omega (arith, new.lists_enough);
-          labels_enough = ap length new.no_labels ∙ length-replicate s.graph.limits.values label.Absent;
+          labels_enough = ap length new.no_labels ∙ length-replicate s.graph.limits.values None;
           start_lists_enough = omega (arith, new.start_lists_enough);
         };
         homes = record {
-          of_result = λ v ty n i e. let z : retired_mark ≡ Inst ty n i = sym (none v) ∙ e in let y : ◌≡◌ {A = ℕ} 0 1 = cc in absurd (omega arith);
-          of_param = λ v ty n b e. let z : retired_mark ≡ Param ty n b = sym (none v) ∙ e in let y : ◌≡◌ {A = ℕ} 0 1 = cc in absurd (omega arith);
+          of_result = λ v ty n i e. let z : retired_mark ≡ Inst ty n i = sym (none v) ∙ e in absurd cc;
+          of_param = λ v ty n b e. let z : retired_mark ≡ Param ty n b = sym (none v) ∙ e in absurd cc;
         };
         spare = record {
-          of_blocks = λ l h k. fresh_at s.graph.words new.lists new.cells l new.empty_words;
-          of_insts = λ l h. fresh_at s.graph.words new.lists new.cells l new.empty_words;
+          of_blocks = λ l h k. empty l;
+          of_insts = λ l h. empty l;
         };
-        home = λ v o e. let z : Gone ≡ Link o = sym (ap kind (none v)) ∙ e in let y : ◌≡◌ {A = ℕ} 0 1 = cc in absurd (omega arith);
+        home = λ v o e. let z : Gone ≡ Link o = sym (ap kind (none v)) ∙ e in absurd cc;
         named = record {
           by_results = λ i k h. absurd (not-suc-le-zero (subst (λ (n : ℕ). i.0 < n) new.no_insts h));
           by_params = λ b k h. absurd (not-suc-le-zero (subst (λ (n : ℕ). b.0 < n) new.no_blocks h));
@@ -90,37 +72,13 @@ tidy_new s new =
         alive = record {
           operands_are = uses.operands_are;
           arguments_are = uses.arguments_are;
-          sides_are = λ v x y ty e. let z : retired_mark ≡ Union ty x y = sym (none v) ∙ e in let w : ◌≡◌ {A = ℕ} 0 1 = cc in absurd (omega arith);
+          sides_are = λ v x y ty e. let z : retired_mark ≡ Union ty x y = sym (none v) ∙ e in absurd cc;
           targets_are = uses.targets_are;
         };
         counts = uses.counts;
       };
       unlabelled = uses.unlabelled;
     }
-
--- flattening, or another edit
-flattens_or_not : (e : Edit) → (e ≡ resolve_all_aliases) ⊎ (e ≢ resolve_all_aliases)
-flattens_or_not resolve_all_aliases = inl refl
-flattens_or_not make_block = inr (λ p. let z : ◌≡◌ {A = ℕ} 0 1 = cc in absurd (omega arith))
-flattens_or_not (make_inst op os ts) = inr (λ p. let z : ◌≡◌ {A = ℕ} 0 1 = cc in absurd (omega arith))
-flattens_or_not (make_inst_results i ts reuse) = inr (λ p. let z : ◌≡◌ {A = ℕ} 0 1 = cc in absurd (omega arith))
-flattens_or_not (clear_results i) = inr (λ p. let z : ◌≡◌ {A = ℕ} 0 1 = cc in absurd (omega arith))
-flattens_or_not (replace_result v ty) = inr (λ p. let z : ◌≡◌ {A = ℕ} 0 1 = cc in absurd (omega arith))
-flattens_or_not (replace_block_param v ty) = inr (λ p. let z : ◌≡◌ {A = ℕ} 0 1 = cc in absurd (omega arith))
-flattens_or_not (remove_block_param v) = inr (λ p. let z : ◌≡◌ {A = ℕ} 0 1 = cc in absurd (omega arith))
-flattens_or_not (swap_remove_block_param v) = inr (λ p. let z : ◌≡◌ {A = ℕ} 0 1 = cc in absurd (omega arith))
-flattens_or_not (append_block_param b ty) = inr (λ p. let z : ◌≡◌ {A = ℕ} 0 1 = cc in absurd (omega arith))
-flattens_or_not (attach_block_param b v) = inr (λ p. let z : ◌≡◌ {A = ℕ} 0 1 = cc in absurd (omega arith))
-flattens_or_not (detach_block_params b out) = inr (λ p. let z : ◌≡◌ {A = ℕ} 0 1 = cc in absurd (omega arith))
-flattens_or_not (clone_inst i) = inr (λ p. let z : ◌≡◌ {A = ℕ} 0 1 = cc in absurd (omega arith))
-flattens_or_not (append_argument i j arg) = inr (λ p. let z : ◌≡◌ {A = ℕ} 0 1 = cc in absurd (omega arith))
-flattens_or_not (remove i j k) = inr (λ p. let z : ◌≡◌ {A = ℕ} 0 1 = cc in absurd (omega arith))
-flattens_or_not (map_inst_values i f) = inr (λ p. let z : ◌≡◌ {A = ℕ} 0 1 = cc in absurd (omega arith))
-flattens_or_not (overwrite_inst_values i vs) = inr (λ p. let z : ◌≡◌ {A = ℕ} 0 1 = cc in absurd (omega arith))
-flattens_or_not (change_to_alias d v) = inr (λ p. let z : ◌≡◌ {A = ℕ} 0 1 = cc in absurd (omega arith))
-flattens_or_not (replace_with_aliases d i) = inr (λ p. let z : ◌≡◌ {A = ℕ} 0 1 = cc in absurd (omega arith))
-flattens_or_not (union x y) = inr (λ p. let z : ◌≡◌ {A = ℕ} 0 1 = cc in absurd (omega arith))
-flattens_or_not (set_label v e) = inr (λ p. let z : ◌≡◌ {A = ℕ} 0 1 = cc in absurd (omega arith))
 
 tidy_flattened : (s t : State) (a : Answer) → Tidy s → does resolve_all_aliases s ≡ done a t → Tidy t
 tidy_flattened s t a tidy e =
@@ -148,10 +106,9 @@ flat_uses s t a tidy e =
     }
 
 -- every other edit, by what it does to definitions, lists and uses
-tidy_edited : (e : Edit) → e ≢ resolve_all_aliases → (s t : State) (a : Answer) → Tidy s → does e s ≡ done a t → Tidy t
-tidy_edited e other s t a tidy q =
+tidy_edited : (e : Edit) (s t : State) (a : Answer) → Tidy s → DefsKept s t → does e s ≡ done a t → Tidy t
+tidy_edited e s t a tidy defs q =
     let good = tidy.good in
-    let defs = defs_kept s t a good e other q in
     let seats = seats_each flat_seats e s t a good q in
     let uses = uses_kept s t a good tidy.unlabelled defs.keeps defs.grows (flat_uses s t a tidy) e q in
     record {
@@ -173,9 +130,9 @@ tidy_edited e other s t a tidy q =
     }
 
 tidy_done : (e : Edit) (s t : State) (a : Answer) → Tidy s → does e s ≡ done a t → Tidy t
-tidy_done e s t a tidy q = elim (flattens_or_not e) [
-  | inl p ↦ tidy_flattened s t a tidy (ap (λ (x : Edit). does x s) (sym p) ∙ q)
-  | inr other ↦ tidy_edited e other s t a tidy q
+tidy_done e s t a tidy q = elim (defs_kept s t a tidy.good e q) [
+  | inl defs ↦ tidy_edited e s t a tidy defs q
+  | inr p ↦ tidy_flattened s t a tidy (ap (λ (x : Edit). does x s) (sym p) ∙ q)
 ]
 
 tidy_step : {s t : State} {e : Edit} {r : Result Answer GraphFault} → Steps s e r t → Tidy s → Tidy t

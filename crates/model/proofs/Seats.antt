@@ -11,7 +11,7 @@ use Rattle.ir.specs.declared.value_data.ValueData.TheVariants.{Inst, Param, Alia
 use Rattle.ir.specs.Packing.{retired_mark}
 use Rattle.store.specs.Bank.{Bank, Owned, items_of}
 use Rattle.values.specs.Leads.{at, Exists}
-use Rattle.values.proofs.Ways.{at_same}
+use Rattle.values.proofs.Ways.{same_value, at_same}
 use Rattle.model.specs.State.{Graph, State, value, block, inst, call_list, holds, attached, attached_by, no_value}
 use Rattle.model.specs.Edits.{with_defs, with_words, with_inst}
 use Rattle.model.specs.Laws.{ListsAreNamed}
@@ -99,20 +99,17 @@ kept t p =
       };
     }
 
-pub same_value : (v w : Value) → v.0 ≡ w.0 → v ≡ w
-same_value v w e = ap value e
-
 -- a definition names one list and one place
 pub one_seat : (h j : Home) (ty tz : Ty) (k n : ℕ) → seat h ty k ≡ seat j tz n → (h ≡ j) × (k ≡ n)
 one_seat (result_of i) (result_of j) ty tz k n e = (cc, cc)
-one_seat (result_of i) (param_of b) ty tz k n e = let z : ◌≡◌ {A = ℕ} 0 1 = cc in absurd (omega arith)
-one_seat (param_of b) (result_of j) ty tz k n e = let z : ◌≡◌ {A = ℕ} 0 1 = cc in absurd (omega arith)
+one_seat (result_of i) (param_of b) ty tz k n e = absurd cc
+one_seat (param_of b) (result_of j) ty tz k n e = absurd cc
 one_seat (param_of b) (param_of c) ty tz k n e = (cc, cc)
 
 -- an alias names none, and so an unknown value does not
 pub no_seat : (h : Home) (ty tz : Ty) (o : Value) (k : ℕ) → Alias tz o ≡ seat h ty k → ⊥
-no_seat (result_of i) ty tz o k e = let z : ◌≡◌ {A = ℕ} 0 1 = cc in omega arith
-no_seat (param_of b) ty tz o k e = let z : ◌≡◌ {A = ℕ} 0 1 = cc in omega arith
+no_seat (result_of i) ty tz o k e = cc
+no_seat (param_of b) ty tz o k e = cc
 
 pub known : (ds : List ValueData) (v : Value) (h : Home) (k : ℕ) → Names ds v h k → Exists ds v
 known ds v h k p =
@@ -133,8 +130,8 @@ pub alias_made : (g : Graph) (ty : Ty) (o : Value) → NamesMade g (Alias ty o)
 alias_made g ty o h tz k e = absurd (no_seat h tz ty o k e)
 
 pub union_made : (g : Graph) (ty : Ty) (x y : Value) → NamesMade g (Union ty x y)
-union_made g ty x y (result_of i) tz k e = let z : ◌≡◌ {A = ℕ} 0 1 = cc in absurd (omega arith)
-union_made g ty x y (param_of b) tz k e = let z : ◌≡◌ {A = ℕ} 0 1 = cc in absurd (omega arith)
+union_made g ty x y (result_of i) tz k e = absurd cc
+union_made g ty x y (param_of b) tz k e = absurd cc
 
 -- a definition added at the end, or changed: what is read is an old one or the new one
 

@@ -1,5 +1,5 @@
 -- Every edit but flattening keeps the lists of results and parameters in order.
-use Rattle.std.proofs.Common.{◌≡◌, ℕ, suc, ◌+◌, ◌<◌, ◌≤◌, true, false, ltb, leb, ◌≢◌, List, [], ◌∷◌, ◌++◌, map, length, get_or, drop, set, None, sym, refl, ◌∙◌, subst, inl, inr, not-suc-le-zero, arith}
+use Rattle.std.proofs.Common.{◌≡◌, ℕ, suc, ◌+◌, ◌<◌, ◌≤◌, true, false, ltb, ◌≢◌, List, [], ◌∷◌, ◌++◌, length, get_or, set, None, sym, refl, ◌∙◌, subst, inl, inr, not-suc-le-zero, arith, Some, Option}
 use Rattle.std.proofs.lemmas.Bool.{cases_eq, cases_lt, ltb-false, leb-false, ltb-true, not-false, and_parts, false≢true}
 use Rattle.std.proofs.lemmas.List.{length-set, length_push, get_or_push, get_or-set_same, get_or-set_other, get_or_append_left}
 use Rattle.ir.specs.declared.entities.Value.{Value}
@@ -8,27 +8,21 @@ use Rattle.ir.specs.declared.entities.Block.{Block}
 use Rattle.ir.specs.declared.entities.Type.{«Type» as Ty}
 use Rattle.ir.specs.declared.value_data.ValueData.{ValueData}
 use Rattle.ir.specs.declared.value_data.ValueData.TheVariants.{Inst, Param, Alias, Union}
-use Rattle.ir.specs.declared.entities.Opcode.{Opcode}
-use Rattle.ir.specs.declared.block_arg.BlockArg.{BlockArg}
 use Rattle.ir.specs.Packing.{type}
 use Rattle.store.specs.Bank.{Bank, cleared, pushed, changed, written}
-use Rattle.table.specs.Table.{operands}
-use Rattle.values.specs.Leads.{at, Exists}
-use Rattle.values.proofs.Ways.{at_same, at_other}
-use Rattle.renaming.specs.Renames.{end_of}
-use Rattle.model.specs.Refusals.{Row, when, done, settle}
-use Rattle.model.specs.State.{Graph, State, Entry, starts, alias, call, has_call, arguments, values_in, value, inst, params, results, result_list, call_list, attached, no_value}
-use Rattle.model.specs.Runs.{Answer, does, on_graph, on_state, is_plain, is_detached, a_value, an_inst, a_block}
+use Rattle.values.specs.Leads.{at}
+use Rattle.values.proofs.Ways.{at_other}
+use Rattle.model.specs.Refusals.{Row, done, settle}
+use Rattle.model.specs.State.{Graph, State, Entry, starts, alias, call, has_call, value, call_list, attached, no_value}
+use Rattle.model.specs.Runs.{Answer, on_graph, on_state}
 use Rattle.model.specs.declared.labels.Start.{Start}
 use Rattle.model.specs.declared.labels.Label.{Label}
 use Rattle.model.specs.declared.labels.Label.TheVariants as label
-use Rattle.model.specs.Runs as runs
 use Rattle.model.specs.Edits as edit
 use Rattle.model.specs.Edits.{with_defs, with_words, with_inst, is_result, is_param, number, inst_of, block_of}
-use Rattle.model.proofs.Invariant.{Good}
-use Rattle.model.proofs.Rows.{Passes, state_done, graph_done, when_none, first_of_none}
-use Rattle.model.proofs.Banks.{pushed_only, changed_only, cleared_only, removed_at_only, written_only, readdressed_only}
-use Rattle.model.proofs.Seats.{SeatsKept, Home, result_of, param_of, Made, list_of, members, seat, Names, NamesMade, Seated, good_seated, kept, seat_made, alias_made, union_made, at_added_old, at_added_new, after_adding, after_setting, redefined, reseated, recalled, one_block_more, one_inst_more, stands, loose, member_known, places_differ}
+use Rattle.model.proofs.Rows.{Passes, state_done, graph_done, when_none}
+use Rattle.model.proofs.Banks.{pushed_only, changed_only, cleared_only, written_only, readdressed_only}
+use Rattle.model.proofs.Seats.{SeatsKept, Home, Made, list_of, members, seat, Names, NamesMade, Seated, kept, seat_made, alias_made, at_added_old, at_added_new, after_adding, after_setting, reseated, recalled, stands, loose, member_known}
 
 -- an accepted edit of the graph, and one of the state
 pub by_graph : {A : Type 0} (s : State) (answer : A → Answer) (rows : List Row) (x : A) (after : Graph) (a : Answer) (t : State) →
@@ -49,20 +43,11 @@ by_state answer rows x after a t f e =
 pub known_inst : (g : Graph) (i : InstId) → edit.unknown_inst g i ≡ None → i.0 < g.insts
 known_inst g i e = leb-false g.insts i.0 (when_none _ _ e)
 
-known_block : (g : Graph) (b : Block) → edit.unknown_block g b ≡ None → b.0 < g.blocks
+pub known_block : (g : Graph) (b : Block) → edit.unknown_block g b ≡ None → b.0 < g.blocks
 known_block g b e = leb-false g.blocks b.0 (when_none _ _ e)
-
-pub known_values : (g : Graph) (vs : List Value) → edit.unknown_values g vs ≡ None → (k : ℕ) → k < length vs → Exists g.defs (get_or vs k no_value)
-known_values g vs e k l = leb-false (length g.defs) (get_or vs k no_value).0 (first_of_none _ _ vs e no_value k l)
 
 pub room_for : (g : Graph) (n : ℕ) → edit.values_full g n ≡ None → length g.defs + n ≤ g.limits.values
 room_for g n e = ltb-false g.limits.values (length g.defs + n) (when_none _ _ e)
-
--- make_block
-pub seats_make_block : (s t : State) (a : Answer) → Good s → does runs.make_block s ≡ done a t → SeatsKept t
-seats_make_block s t a good e =
-    by_graph s a_block (when (leb s.graph.limits.blocks s.graph.blocks) _ ∷ []) _ _ a t
-    (λ p. one_block_more s.graph (good_seated s good) (leb-false s.graph.limits.blocks s.graph.blocks (when_none _ _ p.0))) e
 
 -- v at the end of a list, defined so; it stands in none
 module _ (g : Graph) (p : Seated g) (ds : List ValueData) (h : Home) (m : Made g h) (v : Value) (ty : Ty)
@@ -70,7 +55,7 @@ module _ (g : Graph) (p : Seated g) (ds : List ValueData) (h : Home) (m : Made g
     (new : at ds v ≡ seat h ty (length (members g h)))
     (others : (j : Home) (k : ℕ) → Made g j → k < length (members g j) →
     at ds (get_or (members g j) k no_value) ≡ at g.defs (get_or (members g j) k no_value)) where
-  seats_pushed : Seated (with_words (with_defs g ds) (pushed g.words (list_of g h) v))
+  pub seats_pushed : Seated (with_words (with_defs g ds) (pushed g.words (list_of g h) v))
   seats_pushed =
       reseated g ds (pushed g.words (list_of g h) v) h (members g h ++ v ∷ []) p m (pushed_only g.words (list_of g h) v)
       fit homes here (λ j k n ne l. others j k n l)
@@ -88,31 +73,17 @@ module _ (g : Graph) (p : Seated g) (ds : List ValueData) (h : Home) (m : Made g
           ]
 
 -- a value added keeps the definitions of those that stand in lists
-added_kept : (g : Graph) → Seated g → (d : ValueData) (j : Home) (k : ℕ) → Made g j → k < length (members g j) →
+pub added_kept : (g : Graph) → Seated g → (d : ValueData) (j : Home) (k : ℕ) → Made g j → k < length (members g j) →
     at (g.defs ++ d ∷ []) (get_or (members g j) k no_value) ≡ at g.defs (get_or (members g j) k no_value)
 added_kept g p d j k m l =
     let q = member_known g p j k m l in
     at_added_old g.defs d (get_or (members g j) k no_value) (λ e. omega arith)
 
-added_fits : (g : Graph) (d : ValueData) → edit.values_full g 1 ≡ None → length (g.defs ++ d ∷ []) ≤ g.limits.values
+pub added_fits : (g : Graph) (d : ValueData) → edit.values_full g 1 ≡ None → length (g.defs ++ d ∷ []) ≤ g.limits.values
 added_fits g d e = let n = length_push g.defs d in let r = room_for g 1 e in omega arith
 
--- append_block_param
-pub seats_append_block_param : (b : Block) (ty : Ty) (s t : State) (a : Answer) → Good s →
-    does (runs.append_block_param b ty) s ≡ done a t → SeatsKept t
-seats_append_block_param b ty s t a good e =
-    by_graph s a_value (edit.append_param_rows s.graph b ty) _ _ a t (after s.graph (good_seated s good)) e
-  where
-    after : (g : Graph) → Seated g → Passes (edit.append_param_rows g b ty) → Seated (edit.param_appended g b ty)
-    after g p q =
-        let m = known_block g b q.0 in
-        let d : ValueData = Param ty (length (params g b)) b in
-        seats_pushed g p (g.defs ++ d ∷ []) (param_of b) m (value (length g.defs)) ty (added_fits g d q.1.1.0)
-        (after_adding (NamesMade g) g.defs d p.homes (seat_made g (param_of b) ty (length (params g b)) m))
-        (at_added_new g.defs d) (added_kept g p d)
-
 -- a result or parameter by its parts
-result_form : (d : ValueData) → is_result d ≡ true → d ≡ Inst (type d) (number d) (inst_of d)
+pub result_form : (d : ValueData) → is_result d ≡ true → d ≡ Inst (type d) (number d) (inst_of d)
 result_form (Inst ty n i) e = refl
 result_form (Param ty n b) e = absurd (false≢true e)
 result_form (Alias ty o) e = absurd (false≢true e)
@@ -126,7 +97,7 @@ param_form (Union ty x y) e = absurd (false≢true e)
 
 -- replace_result and replace_block_param
 module _ (g : Graph) (p : Seated g) (v : Value) (ty : Ty) (h : Home) (old : Ty) (n : ℕ) (is : at g.defs v ≡ seat h old n) where
-  seats_changed : attached g v ≡ true → edit.values_full g 1 ≡ None → Seated (edit.replaced g (list_of g h) n (seat h ty n))
+  pub seats_changed : attached g v ≡ true → edit.values_full g 1 ≡ None → Seated (edit.replaced g (list_of g h) n (seat h ty n))
   seats_changed a full =
       reseated g (g.defs ++ seat h ty n ∷ []) (changed g.words (list_of g h) n (value (length g.defs))) h
       (set (members g h) n (value (length g.defs))) p m
@@ -153,95 +124,22 @@ module _ (g : Graph) (p : Seated g) (v : Value) (ty : Ty) (h : Home) (old : Ty) 
                 (ty, at_added_new g.defs (seat h ty n)))
           ]
 
-pub seats_replace_result : (v : Value) (ty : Ty) (s t : State) (a : Answer) → Good s →
-    does (runs.replace_result v ty) s ≡ done a t → SeatsKept t
-seats_replace_result v ty s t a good e =
-    let g = s.graph in
-    let d = at s.graph.defs v in
-    by_graph s a_value (edit.replace_rows g v ty (is_result d)) _ _ a t
-    (λ p. seats_changed g (good_seated s good) v ty (result_of (inst_of d)) (type d) (number d)
-    (result_form d (not-false (is_result d) (when_none _ _ p.1.1.1.0)))
-    (not-false (attached g v) (when_none _ _ p.1.1.1.1.0)) p.1.1.1.1.1.0) e
-
-pub seats_replace_block_param : (v : Value) (ty : Ty) (s t : State) (a : Answer) → Good s →
-    does (runs.replace_block_param v ty) s ≡ done a t → SeatsKept t
-seats_replace_block_param v ty s t a good e =
-    let g = s.graph in
-    let d = at s.graph.defs v in
-    by_graph s a_value (edit.replace_rows g v ty (is_param d)) _ _ a t
-    (λ p. seats_changed g (good_seated s good) v ty (param_of (block_of d)) (type d) (number d)
-    (param_form d (not-false (is_param d) (when_none _ _ p.1.1.1.0)))
-    (not-false (attached g v) (when_none _ _ p.1.1.1.1.0)) p.1.1.1.1.1.0) e
-
 -- a value that stands nowhere, defined anew: those that stand in lists keep their definitions
-set_kept : (g : Graph) → Seated g → (v : Value) (d : ValueData) → attached g v ≡ false → (j : Home) (k : ℕ) → Made g j → k < length (members g j) →
+pub set_kept : (g : Graph) → Seated g → (v : Value) (d : ValueData) → attached g v ≡ false → (j : Home) (k : ℕ) → Made g j → k < length (members g j) →
     at (set g.defs v.0 d) (get_or (members g j) k no_value) ≡ at g.defs (get_or (members g j) k no_value)
 set_kept g p v d a j k m l = at_other g.defs v (get_or (members g j) k no_value) d (loose g p v a j k m l)
 
-set_fits : (g : Graph) → Seated g → (v : Value) (d : ValueData) → length (set g.defs v.0 d) ≤ g.limits.values
+pub set_fits : (g : Graph) → Seated g → (v : Value) (d : ValueData) → length (set g.defs v.0 d) ≤ g.limits.values
 set_fits g p v d = let n = length-set g.defs v.0 d in let z = p.sized.values_fit in omega arith
 
--- attach_block_param
-pub seats_attach_block_param : (b : Block) (v : Value) (s t : State) (a : Answer) → Good s →
-    does (runs.attach_block_param b v) s ≡ done a t → SeatsKept t
-seats_attach_block_param b v s t a good e =
-    by_graph s is_plain (edit.attach_param_rows s.graph b v) _ _ a t (after s.graph (good_seated s good)) e
-  where
-    after : (g : Graph) → Seated g → Passes (edit.attach_param_rows g b v) → Seated (edit.param_attached g b v)
-    after g p q =
-        let m = known_block g b q.0 in
-        let l = known_values g (v ∷ []) q.1.0 0 (omega arith) in
-        let loosely = when_none _ _ q.1.1.1.0 in
-        let ty = type (at g.defs v) in
-        let d : ValueData = Param ty (length (params g b)) b in
-        seats_pushed g p (set g.defs v.0 d) (param_of b) m v ty (set_fits g p v d)
-        (after_setting (NamesMade g) g.defs d p.homes (seat_made g (param_of b) ty (length (params g b)) m) v)
-        (at_same g.defs v d l) (set_kept g p v d loosely)
-
 -- clear_results and detach_block_params
-seats_cleared : (g : Graph) → Seated g → (h : Home) → Made g h → Seated (with_words g (cleared g.words (list_of g h)))
+pub seats_cleared : (g : Graph) → Seated g → (h : Home) → Made g h → Seated (with_words g (cleared g.words (list_of g h)))
 seats_cleared g p h m =
     reseated g g.defs (cleared g.words (list_of g h)) h [] p m (cleared_only g.words (list_of g h))
     p.sized.values_fit p.homes (λ k l. absurd (not-suc-le-zero l)) (λ j k n ne l. refl)
 
-pub seats_clear_results : (i : InstId) (s t : State) (a : Answer) → Good s → does (runs.clear_results i) s ≡ done a t → SeatsKept t
-seats_clear_results i s t a good e =
-    by_graph s is_plain (edit.unknown_inst s.graph i ∷ []) _ _ a t
-    (λ p. seats_cleared s.graph (good_seated s good) (result_of i) (known_inst s.graph i p.0)) e
-
-pub seats_detach_block_params : (b : Block) (out : List Value) (s t : State) (a : Answer) → Good s →
-    does (runs.detach_block_params b out) s ≡ done a t → SeatsKept t
-seats_detach_block_params b out s t a good e =
-    by_graph s is_detached (edit.detach_rows s.graph b out) _ _ a t
-    (λ p. seats_cleared s.graph (good_seated s good) (param_of b) (known_block s.graph b p.0)) e
-
--- change_to_alias: the destination stands nowhere
-pub seats_change_to_alias : (d v : Value) (s t : State) (a : Answer) → Good s → does (runs.change_to_alias d v) s ≡ done a t → SeatsKept t
-seats_change_to_alias d v s t a good e =
-    by_graph s is_plain (edit.change_rows s.graph d v) _ _ a t (after s.graph (good_seated s good)) e
-  where
-    after : (g : Graph) → Seated g → Passes (edit.change_rows g d v) → Seated (with_defs g (edit.aliased g.defs d (end_of g.defs v)))
-    after g p q =
-        let r = end_of g.defs v in
-        let new : ValueData = Alias (type (at g.defs r)) r in
-        redefined g (set g.defs d.0 new) p (set_fits g p d new)
-        (after_setting (NamesMade g) g.defs new p.homes (alias_made g (type (at g.defs r)) r) d)
-        (set_kept g p d new (when_none _ _ q.1.1.0))
-
--- union: one value more, which stands nowhere
-pub seats_union : (x y : Value) (s t : State) (a : Answer) → Good s → does (runs.union x y) s ≡ done a t → SeatsKept t
-seats_union x y s t a good e =
-    by_graph s a_value (edit.union_rows s.graph x y) _ _ a t (after s.graph (good_seated s good)) e
-  where
-    after : (g : Graph) → Seated g → Passes (edit.union_rows g x y) → Seated (with_defs g (g.defs ++ Union (type (at g.defs x)) x y ∷ []))
-    after g p q =
-        let ty = type (at g.defs x) in
-        let d : ValueData = Union ty x y in
-        redefined g (g.defs ++ d ∷ []) p (added_fits g d q.1.1.1.0)
-        (after_adding (NamesMade g) g.defs d p.homes (union_made g ty x y)) (added_kept g p d)
-
 -- replace_with_aliases: the results of the first leave their list
-aliased_away : (xs ys : List Value) (ds : List ValueData) (w : Value) → ((k : ℕ) → k < length xs → w ≢ get_or xs k no_value) →
+pub aliased_away : (xs ys : List Value) (ds : List ValueData) (w : Value) → ((k : ℕ) → k < length xs → w ≢ get_or xs k no_value) →
     at (edit.aliased_each ds xs ys) w ≡ at ds w
 aliased_away [] ys ds w f = refl
 aliased_away (x ∷ xs) [] ds w f = refl
@@ -249,13 +147,13 @@ aliased_away (x ∷ xs) (y ∷ ys) ds w f =
     aliased_away xs ys (edit.aliased ds x y) w (λ k l. f (suc k) (omega arith))
     ∙ at_other ds x w (Alias (type (at ds y)) y) (f 0 (omega arith))
 
-aliased_length : (xs ys : List Value) (ds : List ValueData) → length (edit.aliased_each ds xs ys) ≡ length ds
+pub aliased_length : (xs ys : List Value) (ds : List ValueData) → length (edit.aliased_each ds xs ys) ≡ length ds
 aliased_length [] ys ds = refl
 aliased_length (x ∷ xs) [] ds = refl
 aliased_length (x ∷ xs) (y ∷ ys) ds =
     aliased_length xs ys (edit.aliased ds x y) ∙ length-set ds x.0 (Alias (type (at ds y)) y)
 
-aliased_homes : (g : Graph) (xs ys : List Value) (ds : List ValueData) → ((v : Value) → NamesMade g (at ds v)) →
+pub aliased_homes : (g : Graph) (xs ys : List Value) (ds : List ValueData) → ((v : Value) → NamesMade g (at ds v)) →
     (v : Value) → NamesMade g (at (edit.aliased_each ds xs ys) v)
 aliased_homes g [] ys ds f = f
 aliased_homes g (x ∷ xs) [] ds f = f
@@ -263,67 +161,22 @@ aliased_homes g (x ∷ xs) (y ∷ ys) ds f =
     aliased_homes g xs ys (edit.aliased ds x y)
     (after_setting (NamesMade g) ds (Alias (type (at ds y)) y) f (alias_made g (type (at ds y)) y) x)
 
-pub seats_replace_with_aliases : (d i : InstId) (s t : State) (a : Answer) → Good s →
-    does (runs.replace_with_aliases d i) s ≡ done a t → SeatsKept t
-seats_replace_with_aliases d i s t a good e =
-    by_graph s is_plain (edit.replace_aliases_rows s.graph d i) _ _ a t (after s.graph (good_seated s good)) e
-  where
-    after : (g : Graph) → Seated g → Passes (edit.replace_aliases_rows g d i) →
-        Seated (edit.without_results (with_defs g (edit.aliased_each g.defs (results g d) (results g i))) d)
-    after g p q =
-        let m = known_inst g d q.0 in
-        let n = aliased_length (results g d) (results g i) g.defs in
-        let z = p.sized.values_fit in
-        reseated g (edit.aliased_each g.defs (results g d) (results g i)) (cleared g.words (result_list g d)) (result_of d) [] p m
-        (cleared_only g.words (result_list g d)) (omega arith)
-        (aliased_homes g (results g d) (results g i) g.defs p.homes)
-        (λ k l. absurd (not-suc-le-zero l))
-        (λ j k o ne l. aliased_away (results g d) (results g i) g.defs (get_or (members g j) k no_value)
-        (λ x r same. ne (places_differ g p j (result_of d) k x o m l r same).0))
-
 -- the edits of calls: map_inst_values, overwrite_inst_values, append_argument and remove change only call lists
 
-known_call : (g : Graph) (i : InstId) (j : ℕ) → edit.unknown_call g i j ≡ None → j < 2
+pub known_call : (g : Graph) (i : InstId) (j : ℕ) → edit.unknown_call g i j ≡ None → j < 2
 known_call g i j e =
     ltb-true j 2 (and_parts (ltb j 2) (ltb 0 (length (call g i j))) (not-false (has_call g i j) (when_none _ _ e))).0
 
-pub seats_append_argument : (i : InstId) (j : ℕ) (arg : BlockArg) (s t : State) (a : Answer) → Good s →
-    does (runs.append_argument i j arg) s ≡ done a t → SeatsKept t
-seats_append_argument i j arg s t a good e =
-    by_graph s is_plain (edit.append_argument_rows s.graph i j arg) _ _ a t
-    (λ p. recalled s.graph _ i j _ (good_seated s good) (known_inst s.graph i p.0) (known_call s.graph i j p.1.0)
-    (pushed_only s.graph.words (call_list s.graph i j) _)) e
-
-pub seats_remove : (i : InstId) (j k : ℕ) (s t : State) (a : Answer) → Good s → does (runs.remove i j k) s ≡ done a t → SeatsKept t
-seats_remove i j k s t a good e =
-    by_graph s is_plain (edit.remove_argument_rows s.graph i j k) _ _ a t
-    (λ p. recalled s.graph _ i j _ (good_seated s good) (known_inst s.graph i p.0) (known_call s.graph i j p.1.0)
-    (removed_at_only s.graph.words (call_list s.graph i j) (k + 1))) e
-
 -- other arguments in both calls
-readdressed_both : (g : Graph) → Seated g → (i : InstId) (f h : List Value → List Value) → i.0 < g.insts →
+pub readdressed_both : (g : Graph) → Seated g → (i : InstId) (f h : List Value → List Value) → i.0 < g.insts →
     Seated (with_words g (edit.readdressed (edit.readdressed g.words (call_list g i 0) f) (call_list g i 1) h))
 readdressed_both g p i f h m =
     let b = edit.readdressed g.words (call_list g i 0) f in
     let q = recalled g b i 0 _ p m (omega arith) (readdressed_only g.words (call_list g i 0) f) in
     recalled (with_words g b) _ i 1 _ q m (omega arith) (readdressed_only b (call_list g i 1) h)
 
-pub seats_map_inst_values : (i : InstId) (f : Value → Value) (s t : State) (a : Answer) → Good s →
-    does (runs.map_inst_values i f) s ≡ done a t → SeatsKept t
-seats_map_inst_values i f s t a good e =
-    by_state is_plain (edit.map_rows s i f) _ _ a t
-    (λ p. readdressed_both s.graph (good_seated s good) i (map (edit.renamed_word f)) (map (edit.renamed_word f)) (known_inst s.graph i p.0)) e
-
-pub seats_overwrite_inst_values : (i : InstId) (vs : List Value) (s t : State) (a : Answer) → Good s →
-    does (runs.overwrite_inst_values i vs) s ≡ done a t → SeatsKept t
-seats_overwrite_inst_values i vs s t a good e =
-    let rest = drop (length (operands s.table i.0)) vs in
-    by_state is_plain (edit.overwrite_rows s i vs) _ _ a t
-    (λ p. readdressed_both s.graph (good_seated s good) i (λ ws. edit.poured ws rest)
-    (λ ws. edit.poured ws (drop (length (values_in (arguments s.graph i 0))) rest)) (known_inst s.graph i p.0)) e
-
 -- make_inst: calls of the new instruction are written
-aimed_kept : (ts : List Block) (g : Graph) (i : InstId) (j : ℕ) (b : Bank Value) → i.0 < g.insts + 1 → j + length ts ≤ 2 →
+pub aimed_kept : (ts : List Block) (g : Graph) (i : InstId) (j : ℕ) (b : Bank Value) → i.0 < g.insts + 1 → j + length ts ≤ 2 →
     Seated (with_inst (with_words g b)) → Seated (with_inst (with_words g (edit.aimed g i j ts b)))
 aimed_kept [] g i j b m l p = p
 aimed_kept (t ∷ ts) g i j b m l p =
@@ -333,16 +186,8 @@ aimed_kept (t ∷ ts) g i j b m l p =
 pub room_for_inst : (g : Graph) → edit.insts_full g ≡ None → g.insts < g.limits.insts
 room_for_inst g e = leb-false g.limits.insts g.insts (when_none _ _ e)
 
-pub seats_make_inst : (op : Opcode) (os : List Value) (ts : List Block) (s t : State) (a : Answer) → Good s →
-    does (runs.make_inst op os ts) s ≡ done a t → SeatsKept t
-seats_make_inst op os ts s t a good e =
-    by_state an_inst (edit.make_inst_rows s os ts) _ _ a t
-    (λ p. let two = ltb-false 2 (length ts) (when_none _ _ p.1.1.1.1.0) in
-    aimed_kept ts s.graph (inst s.graph.insts) 0 s.graph.words (omega arith) (omega arith)
-    (one_inst_more s.graph (good_seated s good) (room_for_inst s.graph p.1.1.1.1.1.0))) e
-
 -- set_label: as many labels, and as many lists of starts
-labels_kept : (g : Graph) (ls : List Label) (b : Bank Start) → Seated g → length ls ≡ length g.labels →
+labels_kept : (g : Graph) (ls : List (Option Label)) (b : Bank Start) → Seated g → length ls ≡ length g.labels →
     length b.lists ≡ length g.starts.lists → Seated (edit.with_labels g ls b)
 labels_kept g ls b p same more =
     record {
@@ -360,12 +205,8 @@ labels_kept g ls b p same more =
       named = p.named;
     }
 
-labelled_kept : (g : Graph) → Seated g → (v : Value) (e : Entry) → Seated (edit.labelled g v e)
+pub labelled_kept : (g : Graph) → Seated g → (v : Value) (e : Entry) → Seated (edit.labelled g v e)
 labelled_kept g p v (starts ss) =
-    labels_kept g _ _ p (length-set g.labels v.0 label.Starts) (written_only g.starts v.0 ss).count
+    labels_kept g _ _ p (length-set g.labels v.0 (Some label.Starts)) (written_only g.starts v.0 ss).count
 labelled_kept g p v (alias from target) =
-    labels_kept g _ _ p (length-set g.labels v.0 (label.Alias from target)) (cleared_only g.starts v.0).count
-
-pub seats_set_label : (v : Value) (en : Entry) (s t : State) (a : Answer) → Good s → does (runs.set_label v en) s ≡ done a t → SeatsKept t
-seats_set_label v en s t a good e =
-    by_graph s is_plain (edit.set_label_rows s.graph v en) _ _ a t (λ p. labelled_kept s.graph (good_seated s good) v en) e
+    labels_kept g _ _ p (length-set g.labels v.0 (Some (label.Alias from target))) (cleared_only g.starts v.0).count

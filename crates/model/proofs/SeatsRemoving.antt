@@ -12,17 +12,13 @@ use Rattle.ir.specs.Packing.{type}
 use Rattle.store.specs.Bank.{removed_at, swap_removed_at, swapped_out}
 use Rattle.values.specs.Leads.{at, Exists}
 use Rattle.values.proofs.Ways.{at_same, at_other}
-use Rattle.model.specs.Refusals.{done}
-use Rattle.model.specs.State.{Graph, State, params, param_list, attached, no_value}
-use Rattle.model.specs.Runs.{Answer, does, is_plain, a_number}
-use Rattle.model.specs.Runs as runs
+use Rattle.model.specs.State.{Graph, params, param_list, attached, no_value}
 use Rattle.model.specs.Edits as edit
 use Rattle.model.specs.Edits.{with_defs, with_words, is_param, number, block_of, numbered, lowered, moved, last_of, param_removed, param_swap_removed}
-use Rattle.model.proofs.Invariant.{Good}
 use Rattle.model.proofs.Rows.{Passes, when_none}
 use Rattle.model.proofs.Banks.{removed_at_only, swap_removed_at_only}
-use Rattle.model.proofs.Seats.{SeatsKept, Home, param_of, Made, members, Names, NamesMade, Seated, good_seated, seat_made, after_setting, reseated, stands, member_known, places_differ, Apart, Differ}
-use Rattle.model.proofs.SeatsEdits.{by_graph, param_form}
+use Rattle.model.proofs.Seats.{Home, param_of, Made, members, Names, NamesMade, Seated, seat_made, after_setting, reseated, stands, member_known, places_differ, Apart, Differ}
+use Rattle.model.proofs.SeatsEdits.{param_form}
 
 -- another number names no other list
 numbered_made : (g : Graph) (n : ℕ) (d : ValueData) → NamesMade g d → NamesMade g (numbered n d)
@@ -110,7 +106,7 @@ module _ (g : Graph) (p : Seated g) (b : Block) (n : ℕ) (m : b.0 < g.blocks) (
             ∙ (ap lower a.1 ∙ ap (λ (j : ℕ). Param a.0 j b) z),
       )
 
-  seats_param_removed : Seated (param_removed g b n)
+  pub seats_param_removed : Seated (param_removed g b n)
   seats_param_removed =
       let z = p.sized.values_fit in
       let q = lowered_length late g.defs in
@@ -135,20 +131,13 @@ module _ (g : Graph) (p : Seated g) (v : Value) (q : Passes (edit.remove_rows g 
   removable : at g.defs v ≡ Param (type (at g.defs v)) (number (at g.defs v)) (block_of (at g.defs v))
   removable = param_form (at g.defs v) (not-false (is_param (at g.defs v)) (when_none _ _ q.1.1.0))
 
-  block_made : (block_of (at g.defs v)).0 < g.blocks
+  pub block_made : (block_of (at g.defs v)).0 < g.blocks
   block_made = p.homes v (param_of (block_of (at g.defs v))) (type (at g.defs v)) (number (at g.defs v)) removable
 
-  place_inside : number (at g.defs v) < length (params g (block_of (at g.defs v)))
+  pub place_inside : number (at g.defs v) < length (params g (block_of (at g.defs v)))
   place_inside =
       (stands g v (param_of (block_of (at g.defs v))) (type (at g.defs v)) (number (at g.defs v))
       (not-false (attached g v) (when_none _ _ q.1.1.1.0)) removable).0
-
-pub seats_remove_block_param : (v : Value) (s t : State) (a : Answer) → Good s → does (runs.remove_block_param v) s ≡ done a t → SeatsKept t
-seats_remove_block_param v s t a good e =
-    let g = s.graph in
-    let p = good_seated s good in
-    by_graph s is_plain (edit.remove_rows g v) _ _ a t
-    (λ q. seats_param_removed g p (block_of (at g.defs v)) (number (at g.defs v)) (block_made g p v q) (place_inside g p v q)) e
 
 -- the last item in the place of the one at i
 
@@ -249,7 +238,7 @@ module _ (g : Graph) (p : Seated g) (b : Block) (n : ℕ) (m : b.0 < g.blocks) (
                 (subst (λ (v : Value). Names ds v (param_of b) n) (sym (swapped_here (params g b) n inside y)) (new y))
           ]
 
-  seats_param_swap_removed : Seated (param_swap_removed g b n)
+  pub seats_param_swap_removed : Seated (param_swap_removed g b n)
   seats_param_swap_removed =
       let test = ltb (n + 1) (length (params g b)) in
       elim (cases_Bool (ltb (n + 1) (length (params g b)))) [
@@ -264,11 +253,3 @@ module _ (g : Graph) (p : Seated g) (b : Block) (n : ℕ) (m : b.0 < g.blocks) (
             (swapped_seats g.defs refl p.homes
             (λ l. let z = ltb-false (n + 1) (length (params g b)) f in absurd (omega arith)) (λ h k o l q. refl))
       ]
-
-pub seats_swap_remove_block_param : (v : Value) (s t : State) (a : Answer) → Good s →
-    does (runs.swap_remove_block_param v) s ≡ done a t → SeatsKept t
-seats_swap_remove_block_param v s t a good e =
-    let g = s.graph in
-    let p = good_seated s good in
-    by_graph s a_number (edit.remove_rows g v) _ _ a t
-    (λ q. seats_param_swap_removed g p (block_of (at g.defs v)) (number (at g.defs v)) (block_made g p v q) (place_inside g p v q)) e

@@ -1,34 +1,28 @@
 -- New results of an instruction keep the lists of results and parameters in order.
 use Rattle.std.proofs.Common.{◌≡◌, ℕ, zero, suc, ◌+◌, ◌-◌, ◌<◌, ◌≤◌, Bool, true, false, not, ◌&&◌, eqb, ltb, ◌≢◌, ◌⊎◌, List, [], ◌∷◌, ◌++◌, length, get_or, take, set, Some, None, Option, sym, refl, ap, ◌∙◌, subst, inl, inr, not-suc-le-zero, arith}
 use Rattle.std.proofs.lemmas.Bool.{cond-true, cond-false, cond_both, lt-ltb, le-ltb, eqb-true, eqb-false, and_cases, or_parts, not-false, both_ways, false≢true}
-use Rattle.std.proofs.lemmas.List.{length-set, length_push, length-map}
+use Rattle.std.proofs.lemmas.List.{length-set, length_push}
 use Rattle.ir.specs.declared.entities.Value.{Value}
 use Rattle.ir.specs.declared.entities.Inst.{Inst as InstId}
 use Rattle.ir.specs.declared.entities.Type.{«Type» as Ty}
 use Rattle.ir.specs.declared.value_data.ValueData.{ValueData}
 use Rattle.ir.specs.declared.value_data.ValueData.TheVariants.{Inst}
-use Rattle.ir.specs.Packing.{type}
-use Rattle.store.specs.Bank.{written, copied}
+use Rattle.store.specs.Bank.{written}
 use Rattle.values.specs.Leads.{at}
-use Rattle.values.proofs.Ways.{at_same, at_other}
-use Rattle.model.specs.Refusals.{done}
-use Rattle.model.specs.State.{Graph, State, value, inst, results, result_list, call_list, attached, no_value}
-use Rattle.model.specs.Runs.{Answer, does, an_inst, a_number}
-use Rattle.model.specs.Runs as runs
+use Rattle.values.proofs.Ways.{same_value, at_same, at_other}
+use Rattle.model.specs.State.{Graph, value, inst, result_list, attached, no_value}
 use Rattle.model.specs.Edits as edit
 use Rattle.model.specs.Edits.{with_words, with_inst, defined, seats, seated, with_results, reused, of_inst, among, repeated, result_types, inst_cloned}
-use Rattle.model.proofs.Invariant.{Good}
-use Rattle.model.proofs.Rows.{Passes, first_of_none, cond_none}
-use Rattle.model.proofs.Banks.{written_only, copied_only}
-use Rattle.model.proofs.Seats.{SeatsKept, Home, result_of, param_of, Made, members, Names, NamesMade, Seated, good_seated, same_value, seat_made, at_added_old, at_added_new, after_adding, after_setting, reseated, recalled, one_inst_more, member_attached, member_known, Apart, Differ, apart_cons, differ_cons}
-use Rattle.model.proofs.SeatsEdits.{by_graph, by_state, known_inst, known_values, room_for, room_for_inst}
+use Rattle.model.proofs.Rows.{first_of_none, cond_none}
+use Rattle.model.proofs.Banks.{written_only}
+use Rattle.model.proofs.Seats.{Home, result_of, param_of, Made, members, Names, NamesMade, Seated, seat_made, at_added_old, at_added_new, after_adding, after_setting, reseated, member_attached, member_known, Apart, Differ, apart_cons, differ_cons}
 
 -- every value of a list is below n
-abbrev Below : ℕ → List Value → Type 0
+abbrev pub Below : ℕ → List Value → Type 0
 Below n vs = (k : ℕ) → k < length vs → (get_or vs k no_value).0 < n
 
 -- no value is reused where none is given
-none_reused : (P : List Value → Type 0) (n : ℕ) → P [] → P (reused (take n []))
+pub none_reused : (P : List Value → Type 0) (n : ℕ) → P [] → P (reused (take n []))
 none_reused P zero p = p
 none_reused P (suc n) p = p
 
@@ -197,7 +191,7 @@ module _ (g : Graph) (p : Seated g) (i : InstId) (m : i.0 < g.insts) (ts : List 
   abbrev chosen : List Value
   chosen = seats (length g.defs) ts reuse
 
-  seats_results : Seated (with_results g i ts reuse)
+  pub seats_results : Seated (with_results g i ts reuse)
   seats_results =
       let n = seated_long ts reuse g.defs i 0 (length g.defs) refl below in
       let fit = seats_fit ts reuse (length g.defs) below in
@@ -219,7 +213,7 @@ among_apart v (u ∷ us) e =
     let q = or_parts (eqb u.0 v.0) (among v us) e in
     apart_cons v u us (λ s. eqb-false u.0 v.0 q.0 (ap (λ (x : Value). x.0) (sym s))) (among_apart v us q.1)
 
-repeated_differ : (vs : List Value) → repeated vs ≡ None → Differ vs
+pub repeated_differ : (vs : List Value) → repeated vs ≡ None → Differ vs
 repeated_differ [] e = λ j k r l. absurd (not-suc-le-zero l)
 repeated_differ (v ∷ vs) e =
     let q = cond_none (among v vs) _ (repeated vs) e in
@@ -235,7 +229,7 @@ not_of_inst ds v (param_of b) k i ne n e =
     let f : ValueData → Bool = λ d. of_inst d i in
     false≢true (sym (ap f n.1) ∙ e)
 
-elsewhere_apart : (g : Graph) → Seated g → (i : InstId) (vs : List Value) → edit.attached_elsewhere g i vs ≡ None →
+pub elsewhere_apart : (g : Graph) → Seated g → (i : InstId) (vs : List Value) → edit.attached_elsewhere g i vs ≡ None →
     (j : Home) (k : ℕ) → Made g j → j ≢ result_of i → k < length (members g j) → Apart (get_or (members g j) k no_value) vs
 elsewhere_apart g p i vs row j k o ne l n q e =
     let w = get_or (members g j) k no_value in
@@ -245,41 +239,3 @@ elsewhere_apart g p i vs row j k o ne l n q e =
       | inl f ↦ both_ways (attached g w) f (member_attached g p j k o l)
       | inr f ↦ not_of_inst g.defs w j k i ne (p.named j k o l) (not-false (of_inst (at g.defs w) i) f)
     ]
-
-pub seats_make_inst_results : (i : InstId) (ts : List Ty) (reuse : List (Option Value)) (s t : State) (a : Answer) → Good s →
-    does (runs.make_inst_results i ts reuse) s ≡ done a t → SeatsKept t
-seats_make_inst_results i ts reuse s t a good e =
-    by_graph s a_number (edit.make_inst_results_rows s.graph i ts reuse) _ _ a t (after s.graph (good_seated s good)) e
-  where
-    after : (g : Graph) → Seated g → Passes (edit.make_inst_results_rows g i ts reuse) → Seated (with_results g i ts reuse)
-    after g p q =
-        seats_results g p i (known_inst g i q.0) ts reuse
-        (known_values g (reused (take (length ts) reuse)) q.1.0)
-        (repeated_differ (reused (take (length ts) reuse)) q.1.1.1.1.1.1.0)
-        (elsewhere_apart g p i (reused (take (length ts) reuse)) q.1.1.1.1.0)
-        (room_for g (length ts - length (reused (take (length ts) reuse))) q.1.1.1.1.1.1.1.0)
-
--- clone_inst: one instruction more, its calls copied, and new results
-pub seats_clone_inst : (i : InstId) (s t : State) (a : Answer) → Good s → does (runs.clone_inst i) s ≡ done a t → SeatsKept t
-seats_clone_inst i s t a good e =
-    by_state an_inst (edit.clone_rows s i) _ _ a t
-    (λ q. after s.graph (good_seated s good) (room_for_inst s.graph q.1.1.0)
-    (room_for s.graph (length (results s.graph i)) q.1.1.1.1.0)) e
-  where
-    after : (g : Graph) → Seated g → g.insts < g.limits.insts → length g.defs + length (results g i) ≤ g.limits.values →
-        Seated (inst_cloned g i)
-    after g p more room =
-        let new = inst g.insts in
-        let ts = result_types g i in
-        let m : g.insts < g.insts + 1 = omega arith in
-        let b = copied g.words (call_list g i 0) (call_list g new 0) in
-        let q = recalled (with_inst g) b new 0 _ (one_inst_more g p more) m (omega arith) (copied_only g.words (call_list g i 0) (call_list g new 0)) in
-        let c = copied b (call_list g i 1) (call_list g new 1) in
-        let r = recalled (with_words (with_inst g) b) c new 1 _ q m (omega arith) (copied_only b (call_list g i 1) (call_list g new 1)) in
-        let n = length-map (results g i) (λ (v : Value). type (at g.defs v)) in
-        let z = none_reused (λ (vs : List Value). length vs ≡ 0) (length ts) refl in
-        seats_results (with_words (with_inst g) c) r new m ts []
-        (none_reused (Below (length g.defs)) (length ts) (λ k l. absurd (not-suc-le-zero l)))
-        (none_reused Differ (length ts) (λ j k x l. absurd (not-suc-le-zero l)))
-        (λ j k o ne l. none_reused (Apart (get_or (members (with_words (with_inst g) c) j) k no_value)) (length ts) (λ x y. absurd (not-suc-le-zero y)))
-        (omega arith)

@@ -1,31 +1,29 @@
 -- Uses that stay alive: what every edit's proof goes by.
-use Rattle.std.proofs.Common.{◌≡◌, ℕ, suc, ◌+◌, ◌<◌, ◌≤◌, leb, ◌≢◌, List, [], ◌∷◌, ◌++◌, map, length, get_or, take, drop, Some, None, sym, refl, ap, subst, inl, inr, arith}
+use Rattle.std.proofs.Common.{◌≡◌, ℕ, suc, ◌+◌, ◌<◌, ◌≤◌, ◌≢◌, List, [], ◌∷◌, ◌++◌, map, length, get_or, take, drop, Some, None, sym, ap, subst, inl, inr, arith, Option}
 use Rattle.std.specs.List.{remove, AllByRecursion as All}
 use Rattle.std.proofs.lemmas.List.{get_or_past, take-take, drop-take}
 use Rattle.std.proofs.ByRecursion.{All-append, All-drop, All-take, All-push, All-get_or, All-from_get_or}
-use Rattle.std.proofs.lemmas.Bool.{cases_eq, cases_lt, leb-false, both_ways}
+use Rattle.std.proofs.lemmas.Bool.{cases_eq, cases_lt}
 use Rattle.ir.specs.declared.entities.Value.{Value}
 use Rattle.ir.specs.declared.entities.Inst.{Inst as InstId}
 use Rattle.ir.specs.declared.value_data.ValueData.{ValueData}
-use Rattle.ir.specs.Packing.{retired}
 use Rattle.store.specs.Bank.{Bank, Owned, nothing, items_of}
 use Rattle.table.specs.Table.{Table, Row, count, operands, no_row}
-use Rattle.values.specs.Leads.{at, Exists}
-use Rattle.model.specs.declared.fault.GraphFault.TheVariants.{Unknown, Retired}
+use Rattle.values.specs.Leads.{Exists}
 use Rattle.model.specs.declared.labels.Start.{Start}
 use Rattle.model.specs.declared.labels.Label.{Label}
 use Rattle.model.specs.declared.labels.Label.TheVariants as label
 use Rattle.model.specs.State.{Graph, State, alias, value, call_list, arguments, value_argument, as_entry, label_at, entry, no_value}
 use Rattle.model.specs.Edits.{unknown_values, retired_values}
 use Rattle.model.specs.Laws.{Usable}
-use Rattle.model.proofs.Rows.{first_of_none}
 use Rattle.model.proofs.Invariant.{Good}
 use Rattle.model.proofs.Banks.{OnlyList, items_other}
 use Rattle.model.proofs.UsesWords.{Fair}
+use Rattle.model.proofs.DefsEdits.{usable}
 
 -- what does not exist has no label
 abbrev pub SpareLabels : Graph → Type 0
-SpareLabels g = (n : ℕ) → length g.defs ≤ n → get_or g.labels n label.Absent ≡ label.Absent
+SpareLabels g = (n : ℕ) → length g.defs ≤ n → get_or g.labels n None ≡ None
 
 -- what may be used before may be used after
 abbrev pub StayUsable : List ValueData → List ValueData → Type 0
@@ -73,11 +71,6 @@ pub all_readdressed : {X : Type 0} (P : X → Type 0) (xs ys : List X) → All P
 all_readdressed P [] ys h = All-drop P 1 ys h
 all_readdressed P (x ∷ xs) ys h = h
 
--- behind the target, a map goes over the arguments
-pub drop_readdressed : {X : Type 0} (f : X → X) (xs : List X) → drop 1 (take 1 xs ++ map f (drop 1 xs)) ≡ map f (drop 1 xs)
-drop_readdressed f [] = refl
-drop_readdressed f (x ∷ xs) = refl
-
 -- P holds of the arguments in list l
 abbrev pub Args : (Value → Type 0) → Bank Value → ℕ → Type 0
 Args P b l = All P (drop 1 (items_of b l))
@@ -103,13 +96,7 @@ args_only P {b} {c} {l} {xs} o p m h = elim (cases_eq m l) [
 -- values that passed
 pub usable_values : (g : Graph) (vs : List Value) → unknown_values g vs ≡ None → retired_values g vs ≡ None →
     All (Usable g.defs) vs
-usable_values g vs u r =
-    All-from_get_or (Usable g.defs) vs no_value (λ k h. (
-      leb-false (length g.defs) (get_or vs k no_value).0
-          (first_of_none (λ v. leb (length g.defs) v.0) (λ v. Unknown v.0) vs u no_value k h),
-      λ q. both_ways (retired (at g.defs (get_or vs k no_value)))
-          (first_of_none (λ v. retired (at g.defs v)) (λ v. Retired v.0) vs r no_value k h) (ap retired q.1),
-    ))
+usable_values g vs u r = All-from_get_or (Usable g.defs) vs no_value (usable g vs u r)
 
 -- Every row's operands, every call's arguments and every label's target are alive: what is not made yet has none.
 
@@ -119,15 +106,15 @@ RowsAlive ds t = All (λ r. All (Usable ds) r.operands) t.rows
 abbrev pub CallsAlive : List ValueData → Graph → Bank Value → Type 0
 CallsAlive ds g b = (i : InstId) (j : ℕ) → j < 2 → Args (Fair (Usable ds)) b (call_list g i j)
 
-abbrev pub LabelsAlive : List ValueData → List Label → Type 0
-LabelsAlive ds ls = (n from : ℕ) (target : Value) → get_or ls n label.Absent ≡ label.Alias from target → Usable ds target
+abbrev pub LabelsAlive : List ValueData → List (Option Label) → Type 0
+LabelsAlive ds ls = (n from : ℕ) (target : Value) → get_or ls n None ≡ Some (label.Alias from target) → Usable ds target
 
 -- an alias entry is an alias label
-entry_label : (l : Label) (ss : List Start) (from : ℕ) (target : Value) → as_entry l ss ≡ Some (alias from target) →
-    l ≡ label.Alias from target
-entry_label label.Absent ss from target e = let z : ◌≡◌ {A = ℕ} 0 1 = cc in absurd (omega arith)
-entry_label label.Starts ss from target e = let z : ◌≡◌ {A = ℕ} 0 1 = cc in absurd (omega arith)
-entry_label (label.Alias f u) ss from target e = cc
+pub entry_label : (l : Option Label) (ss : List Start) (from : ℕ) (target : Value) → as_entry l ss ≡ Some (alias from target) →
+    l ≡ Some (label.Alias from target)
+entry_label None ss from target e = absurd cc
+entry_label (Some label.Starts) ss from target e = absurd cc
+entry_label (Some (label.Alias f u)) ss from target e = cc
 
 pub uses_from : (t : State) → RowsAlive t.graph.defs t.table → CallsAlive t.graph.defs t.graph t.graph.words →
     LabelsAlive t.graph.defs t.graph.labels → t.graph.insts ≡ count t.table → SpareLabels t.graph → UsesKept t
@@ -165,6 +152,6 @@ module _ (s : State) (good : Good s) (ds : List ValueData) (kept : StayUsable s.
 
   pub labels_alive : SpareLabels s.graph → LabelsAlive ds s.graph.labels
   labels_alive spare n from target e = elim (cases_lt n (length s.graph.defs)) [
-    | inl h ↦ kept target (good.alive.targets_are (value n) target from h (ap (λ (l : Label). as_entry l (items_of s.graph.starts n)) e))
-    | inr h ↦ let a = spare n h in let z : ◌≡◌ {A = ℕ} 0 1 = cc in absurd (omega arith)
+    | inl h ↦ kept target (good.alive.targets_are (value n) target from h (ap (λ (l : Option Label). as_entry l (items_of s.graph.starts n)) e))
+    | inr h ↦ let a = spare n h in absurd cc
   ]

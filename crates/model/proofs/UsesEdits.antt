@@ -1,5 +1,5 @@
 -- Every edit but flattening keeps uses alive.
-use Rattle.std.proofs.Common.{◌≡◌, ℕ, suc, ◌+◌, ◌*◌, ◌<◌, ◌≤◌, true, not, ltb, leb, ◌≢◌, List, [], ◌∷◌, ◌++◌, map, length, get_or, take, drop, set, None, Ok, Err, Option, Result, sym, refl, ap, ◌∙◌, subst, inl, inr, arith}
+use Rattle.std.proofs.Common.{◌≡◌, ℕ, suc, ◌+◌, ◌*◌, ◌<◌, ◌≤◌, true, not, ltb, leb, ◌≢◌, List, [], ◌∷◌, ◌++◌, map, length, get_or, take, drop, set, None, Ok, Err, Option, Result, sym, refl, ap, ◌∙◌, subst, inl, inr, arith, Some}
 use Rattle.std.specs.List.{remove as removed, AllByRecursion as All}
 use Rattle.std.proofs.lemmas.List.{get_or-set_same, get_or-set_other, length-set, length_push, length-append}
 use Rattle.std.proofs.ByRecursion.{All-push, All-set, All-map}
@@ -7,11 +7,8 @@ use Rattle.std.proofs.lemmas.Bool.{cases_eq, leb-false, ltb-true, not-false, and
 use Rattle.ir.specs.declared.entities.Value.{Value}
 use Rattle.ir.specs.declared.entities.Inst.{Inst as InstId}
 use Rattle.ir.specs.declared.entities.Block.{Block}
-use Rattle.ir.specs.declared.entities.Type.{«Type» as Ty}
-use Rattle.ir.specs.declared.entities.Opcode.{Opcode}
 use Rattle.ir.specs.declared.value_data.ValueData.{ValueData}
 use Rattle.ir.specs.declared.value_data.ValueData.TheVariants.{Inst, Param, Alias, Union}
-use Rattle.ir.specs.declared.block_arg.BlockArg.{BlockArg}
 use Rattle.ir.specs.Packing.{type}
 use Rattle.ir.specs.Arguments.{encoded, value_of}
 use Rattle.store.specs.Bank.{Bank, items_of, removed_at, written, cleared, copied}
@@ -24,7 +21,7 @@ use Rattle.model.specs.declared.labels.Start.{Start}
 use Rattle.model.specs.declared.labels.Label.{Label}
 use Rattle.model.specs.declared.labels.Label.TheVariants as label
 use Rattle.model.specs.Refusals.{Row, when, by_table, done, settle}
-use Rattle.model.specs.State.{Graph, State, Limits, Entry, starts, alias, value, inst, block, param_list, result_list, call_list, params, results, call, has_call, arguments, values_in, call_values, inst_values}
+use Rattle.model.specs.State.{Graph, State, Limits, starts, alias, value, inst, block, param_list, result_list, call_list, params, results, call, has_call, arguments, values_in, call_values, inst_values}
 use Rattle.model.specs.Edits.{is_param, is_result, block_of, inst_of, number, unknown_block, unknown_inst, make_inst_results_rows, with_results, without_results, replace_rows, replaced, remove_rows, param_removed, param_swap_removed, append_param_rows, param_appended, attach_param_rows, param_attached, detach_rows, without_params, written_over, change_rows, aliased, aliased_each, replace_aliases_rows, union_rows, with_defs, with_words, unknown_call, in_list, append_argument_rows, word_of, argument_appended, remove_argument_rows, set_label_rows, labelled, with_labels, with_inst, aimed, make_inst_rows, clone_rows, calls_copied, inst_cloned, map_rows, calls_renamed, renamed_word, with_operands, readdressed, overwrite_rows, calls_poured, poured}
 use Rattle.model.specs.Runs.{Edit, Answer, on_graph, on_state, resolve_all_aliases, a_block, a_value, a_number, an_inst, is_plain, is_detached, does, make_block, make_inst, make_inst_results, clear_results, replace_result, replace_block_param, remove_block_param, swap_remove_block_param, append_block_param, attach_block_param, detach_block_params, clone_inst, append_argument, remove, map_inst_values, overwrite_inst_values, change_to_alias, replace_with_aliases, union, set_label}
 use Rattle.model.specs.Laws.{Usable}
@@ -48,10 +45,10 @@ block_exists : (s : State) → Good s → (v : Value) → is_param (at s.graph.d
 block_exists s good v h = by (at s.graph.defs v) refl h
   where
     by : (d : ValueData) → at s.graph.defs v ≡ d → is_param d ≡ true → (block_of d).0 < s.graph.limits.blocks
-    by (Inst ty n i) e q = let z : ◌≡◌ {A = ℕ} 0 1 = cc in absurd (omega arith)
+    by (Inst ty n i) e q = absurd cc
     by (Param ty n b) e q = omega (arith, good.homes.of_param v ty n b e, good.sized.blocks_fit)
-    by (Alias ty r) e q = let z : ◌≡◌ {A = ℕ} 0 1 = cc in absurd (omega arith)
-    by (Union ty x y) e q = let z : ◌≡◌ {A = ℕ} 0 1 = cc in absurd (omega arith)
+    by (Alias ty r) e q = absurd cc
+    by (Union ty x y) e q = absurd cc
 
 -- new targets bring no arguments
 aimed_args : (P : Value → Type 0) (g : Graph) (i : InstId) (j : ℕ) (ts : List Block) (b : Bank Value) (m : ℕ) → Args P b m →
@@ -64,7 +61,7 @@ aimed_args P g i j (x ∷ ts) b m h =
 -- a row that passed is added
 added : {A : Type 0} (r : Result A TableFault) (x y : Table) → by_table r ≡ None → accepted r x y ≡ x
 added (Ok a) x y e = refl
-added (Err f) x y e = let z : ◌≡◌ {A = ℕ} 0 1 = cc in absurd (omega arith)
+added (Err f) x y e = absurd cc
 
 -- what may be used before an edit may be used after it, and no value is lost
 abbrev pub Keeps : State → State → Type 0
@@ -109,33 +106,6 @@ module _ (s t : State) (a : Answer) (good : Good s) (spare : SpareLabels s.graph
       steady_kept (record { graph = g; table = s.table }) d.1 (same.1, same.2)
       (λ k. (rows_alive s good g.defs k.0, calls d.0 k.0, same.0 ∙ good.counts))
 
-  pub uses_make_block : does make_block s ≡ done a t → UsesKept t
-  uses_make_block e =
-      let g : Graph = s.graph in
-      graph_kept a_block (when (leb g.limits.blocks g.blocks) (Full g.limits.blocks) ∷ []) (block g.blocks)
-      (record { defs = g.defs; blocks = g.blocks + 1; insts = g.insts; words = g.words; labels = g.labels; starts = g.starts; limits = g.limits })
-      (refl, refl, refl) e (λ p k. calls_alive s good s.graph.defs k)
-
-  pub uses_make_inst_results : (i : InstId) (ts : List Ty) (reuse : List (Option Value)) →
-      does (make_inst_results i ts reuse) s ≡ done a t → UsesKept t
-  uses_make_inst_results i ts reuse e =
-      graph_kept a_number (make_inst_results_rows s.graph i ts reuse) (length ts) (with_results s.graph i ts reuse) (refl, refl, refl) e
-      (λ p k. others_alive _ k (written_only s.graph.words (result_list s.graph i) _) (result_away s.graph i))
-
-  pub uses_clear_results : (i : InstId) → does (clear_results i) s ≡ done a t → UsesKept t
-  uses_clear_results i e =
-      graph_kept is_plain (unknown_inst s.graph i ∷ []) tt (without_results s.graph i) (refl, refl, refl) e
-      (λ p k. others_alive _ k (cleared_only s.graph.words (result_list s.graph i)) (result_away s.graph i))
-
-  pub uses_replace_result : (v : Value) (ty : Ty) → does (replace_result v ty) s ≡ done a t → UsesKept t
-  uses_replace_result v ty e =
-      let d : ValueData = at s.graph.defs v in
-      graph_kept a_value (replace_rows s.graph v ty (is_result d)) (value (length s.graph.defs))
-      (replaced s.graph (result_list s.graph (inst_of d)) (number d) (Inst ty (number d) (inst_of d))) (refl, refl, refl) e
-      (λ p k. others_alive _ k
-      (changed_only s.graph.words (result_list s.graph (inst_of d)) (number d) (value (length s.graph.defs)))
-      (result_away s.graph (inst_of d)))
-
   -- of a value that passed as a parameter
   param_of : (v : Value) → when (not (is_param (at s.graph.defs v))) (Kind v.0) ≡ None →
       (i : InstId) (j : ℕ) → j < 2 → call_list s.graph i j ≢ param_list s.graph (block_of (at s.graph.defs v))
@@ -148,61 +118,6 @@ module _ (s t : State) (a : Answer) (good : Good s) (spare : SpareLabels s.graph
   params_of b e = param_away s.graph b
       (omega (arith, leb-false s.graph.blocks b.0 (when_none _ _ e), good.sized.blocks_fit))
 
-  pub uses_replace_block_param : (v : Value) (ty : Ty) → does (replace_block_param v ty) s ≡ done a t → UsesKept t
-  uses_replace_block_param v ty e =
-      let d : ValueData = at s.graph.defs v in
-      graph_kept a_value (replace_rows s.graph v ty (is_param d)) (value (length s.graph.defs))
-      (replaced s.graph (param_list s.graph (block_of d)) (number d) (Param ty (number d) (block_of d))) (refl, refl, refl) e
-      (λ p k. others_alive _ k
-      (changed_only s.graph.words (param_list s.graph (block_of d)) (number d) (value (length s.graph.defs)))
-      (param_of v p.1.1.1.0))
-
-  pub uses_remove_block_param : (v : Value) → does (remove_block_param v) s ≡ done a t → UsesKept t
-  uses_remove_block_param v e =
-      let d : ValueData = at s.graph.defs v in
-      graph_kept is_plain (remove_rows s.graph v) tt (param_removed s.graph (block_of d) (number d)) (refl, refl, refl) e
-      (λ p k. others_alive _ k (removed_at_only s.graph.words (param_list s.graph (block_of d)) (number d)) (param_of v p.1.1.0))
-
-  pub uses_swap_remove_block_param : (v : Value) → does (swap_remove_block_param v) s ≡ done a t → UsesKept t
-  uses_swap_remove_block_param v e =
-      let d : ValueData = at s.graph.defs v in
-      graph_kept a_number (remove_rows s.graph v) (number d) (param_swap_removed s.graph (block_of d) (number d)) (refl, refl, refl) e
-      (λ p k. others_alive _ k (swap_removed_at_only s.graph.words (param_list s.graph (block_of d)) (number d)) (param_of v p.1.1.0))
-
-  pub uses_append_block_param : (b : Block) (ty : Ty) → does (append_block_param b ty) s ≡ done a t → UsesKept t
-  uses_append_block_param b ty e =
-      graph_kept a_value (append_param_rows s.graph b ty) (value (length s.graph.defs)) (param_appended s.graph b ty) (refl, refl, refl) e
-      (λ p k. others_alive _ k (pushed_only s.graph.words (param_list s.graph b) (value (length s.graph.defs))) (params_of b p.0))
-
-  pub uses_attach_block_param : (b : Block) (v : Value) → does (attach_block_param b v) s ≡ done a t → UsesKept t
-  uses_attach_block_param b v e =
-      graph_kept is_plain (attach_param_rows s.graph b v) tt (param_attached s.graph b v) (refl, refl, refl) e
-      (λ p k. others_alive _ k (pushed_only s.graph.words (param_list s.graph b) v) (params_of b p.0))
-
-  pub uses_detach_block_params : (b : Block) (out : List Value) → does (detach_block_params b out) s ≡ done a t → UsesKept t
-  uses_detach_block_params b out e =
-      graph_kept is_detached (detach_rows s.graph b out) (length (params s.graph b), written_over out (params s.graph b))
-      (without_params s.graph b) (refl, refl, refl) e
-      (λ p k. others_alive _ k (cleared_only s.graph.words (param_list s.graph b)) (params_of b p.0))
-
-  pub uses_change_to_alias : (d v : Value) → does (change_to_alias d v) s ≡ done a t → UsesKept t
-  uses_change_to_alias d v e =
-      graph_kept is_plain (change_rows s.graph d v) tt
-      (with_defs s.graph (aliased s.graph.defs d (end_of s.graph.defs v))) (refl, refl, refl) e
-      (λ p k. calls_alive s good _ k)
-
-  pub uses_replace_with_aliases : (d i : InstId) → does (replace_with_aliases d i) s ≡ done a t → UsesKept t
-  uses_replace_with_aliases d i e =
-      graph_kept is_plain (replace_aliases_rows s.graph d i) tt
-      (without_results (with_defs s.graph (aliased_each s.graph.defs (results s.graph d) (results s.graph i))) d) (refl, refl, refl) e
-      (λ p k. others_alive _ k (cleared_only s.graph.words (result_list s.graph d)) (result_away s.graph d))
-
-  pub uses_union : (x y : Value) → does (union x y) s ≡ done a t → UsesKept t
-  uses_union x y e =
-      graph_kept a_value (union_rows s.graph x y) (value (length s.graph.defs))
-      (with_defs s.graph (s.graph.defs ++ Union (type (at s.graph.defs x)) x y ∷ [])) (refl, refl, refl) e
-      (λ p k. calls_alive s good _ k)
-
   -- a call's list stays alive where what is put into a list is
   call_alive : (ds : List ValueData) → StayUsable s.graph.defs ds → {b : Bank Value} {l : ℕ} {xs : List Value} →
       OnlyList s.graph.words b l xs → All (Fair (Usable ds)) (drop 1 xs) → CallsAlive ds s.graph b
@@ -214,30 +129,9 @@ module _ (s t : State) (a : Answer) (good : Good s) (spare : SpareLabels s.graph
       ltb-true j 2 (and_parts (ltb j 2) (ltb 0 (length (call s.graph i j)))
       (not-false (has_call s.graph i j) (when_none _ _ e))).0
 
-  pub uses_append_argument : (i : InstId) (j : ℕ) (arg : BlockArg) → does (append_argument i j arg) s ≡ done a t → UsesKept t
-  uses_append_argument i j arg e =
-      let l : ℕ = call_list s.graph i j in
-      graph_kept is_plain (append_argument_rows s.graph i j arg) tt (argument_appended s.graph i j arg) (refl, refl, refl) e
-      (λ p k. call_alive s.graph.defs k (pushed_only s.graph.words l (word_of (encoded arg)))
-      (all_appended (Fair (Usable s.graph.defs)) (items_of s.graph.words l) (word_of (encoded arg))
-      (calls_alive s good s.graph.defs k i j (call_of i j p.1.0))
-      (encoded_fair (Usable s.graph.defs) arg p.1.1.1.1.0
-      (usable_values s.graph (in_list (value_of arg)) p.1.1.0 p.1.1.1.0))))
-
-  pub uses_remove : (i : InstId) (j n : ℕ) → does (remove i j n) s ≡ done a t → UsesKept t
-  uses_remove i j n e =
-      let l : ℕ = call_list s.graph i j in
-      let one : suc n ≡ n + 1 = omega arith in
-      graph_kept is_plain (remove_argument_rows s.graph i j n) tt
-      (with_words s.graph (removed_at s.graph.words l (n + 1))) (refl, refl, refl) e
-      (λ p k. call_alive s.graph.defs k (removed_at_only s.graph.words l (n + 1))
-      (subst (λ (m : ℕ). All (Fair (Usable s.graph.defs)) (drop 1 (removed (items_of s.graph.words l) m))) one
-      (all_removed (Fair (Usable s.graph.defs)) (items_of s.graph.words l) n
-      (calls_alive s good s.graph.defs k i j (call_of i j p.1.0)))))
-
   -- another label of a value that exists
-  label_kept : (n : ℕ) (l : Label) (b : Bank Start) → n < length s.graph.defs →
-      ((from : ℕ) (target : Value) → l ≡ label.Alias from target → Usable s.graph.defs target) →
+  label_kept : (n : ℕ) (l : Option Label) (b : Bank Start) → n < length s.graph.defs →
+      ((from : ℕ) (target : Value) → l ≡ Some (label.Alias from target) → Usable s.graph.defs target) →
       record { graph = with_labels s.graph (set s.graph.labels n l) b; table = s.table } ≡ t → UsesKept t
   label_kept n l b h new e = there _ e (λ k.
       uses_from (record { graph = with_labels s.graph (set s.graph.labels n l) b; table = s.table })
@@ -245,26 +139,14 @@ module _ (s t : State) (a : Answer) (good : Good s) (spare : SpareLabels s.graph
       (λ m from target q. elim (cases_eq m n) [
         | inl p ↦ new from target (sym (here m p) ∙ q)
         | inr ne ↦ labels_alive s good s.graph.defs k.0 spare m from target
-            (sym (get_or-set_other s.graph.labels n m l label.Absent ne) ∙ q)
+            (sym (get_or-set_other s.graph.labels n m l None ne) ∙ q)
       ])
       good.counts
-      (λ m i. get_or-set_other s.graph.labels n m l label.Absent (λ p. omega arith) ∙ spare m i))
+      (λ m i. get_or-set_other s.graph.labels n m l None (λ p. omega arith) ∙ spare m i))
     where
-      here : (m : ℕ) → m ≡ n → get_or (set s.graph.labels n l) m label.Absent ≡ l
-      here m p = rw p (get_or-set_same s.graph.labels n l label.Absent
+      here : (m : ℕ) → m ≡ n → get_or (set s.graph.labels n l) m None ≡ l
+      here m p = rw p (get_or-set_same s.graph.labels n l None
           (omega (arith, good.sized.values_fit, good.sized.labels_enough)))
-
-  pub uses_set_label : (v : Value) (x : Entry) → does (set_label v x) s ≡ done a t → UsesKept t
-  uses_set_label v (starts ss) e =
-      let d = graph_done s is_plain (set_label_rows s.graph v (starts ss)) tt (labelled s.graph v (starts ss)) a t e in
-      label_kept v.0 label.Starts (written s.graph.starts v.0 ss)
-      (usable_values s.graph (v ∷ []) d.0.0 d.0.1.0).0.0
-      (λ from target q. let z : ◌≡◌ {A = ℕ} 0 1 = cc in absurd (omega arith)) d.1
-  uses_set_label v (alias from target) e =
-      let d = graph_done s is_plain (set_label_rows s.graph v (alias from target)) tt (labelled s.graph v (alias from target)) a t e in
-      let u = usable_values s.graph (v ∷ target ∷ []) d.0.0 d.0.1.0 in
-      label_kept v.0 (label.Alias from target) (cleared s.graph.starts v.0) u.0.0
-      (λ f w q. let p : target ≡ w = cc in subst (Usable s.graph.defs) p u.1.0) d.1
 
   -- an edit of the state, which leaves labels and limits
   state_kept : {A : Type 0} (answer : A → Answer) (rows : List Row) (x : A) (u : State) →
@@ -281,46 +163,6 @@ module _ (s t : State) (a : Answer) (good : Good s) (spare : SpareLabels s.graph
 
   count_more : (r : TableRow) → s.graph.insts + 1 ≡ count (with_row s.table r)
   count_more r = ap (λ (n : ℕ). n + 1) good.counts ∙ sym (length_push s.table.rows r)
-
-  pub uses_make_inst : (op : Opcode) (os : List Value) (ts : List Block) → does (make_inst op os ts) s ≡ done a t → UsesKept t
-  uses_make_inst op os ts e =
-      let i : InstId = inst s.graph.insts in
-      let r : TableRow = record { opcode = op; operands = os } in
-      state_kept an_inst (make_inst_rows s os ts) i
-      (record { graph = with_inst (with_words s.graph (aimed s.graph i 0 ts s.graph.words)); table = add_table s.table op os })
-      (refl, refl) e
-      (λ p k.
-      let t-is : add_table s.table op os ≡ with_row s.table r =
-      added (add_answer s.table (length os)) (with_row s.table r) s.table p.1.1.1.1.1.1.0 in (
-        subst (RowsAlive s.graph.defs) (sym t-is)
-            (row_more s.graph.defs k.0 r (usable_values s.graph os p.0 p.1.1.0)),
-        (λ d j h. aimed_args (Fair (Usable s.graph.defs)) s.graph i 0 ts s.graph.words (call_list s.graph d j)
-            (calls_alive s good s.graph.defs k.0 d j h)),
-        count_more r ∙ ap count (sym t-is),
-      ))
-
-  pub uses_clone_inst : (i : InstId) → does (clone_inst i) s ≡ done a t → UsesKept t
-  uses_clone_inst i e =
-      let g : Graph = s.graph in
-      let new : InstId = inst g.insts in
-      let r : TableRow = row s.table i.0 in
-      let ds : List ValueData = (inst_cloned g i).defs in
-      let first : Bank Value = copied g.words (call_list g i 0) (call_list g new 0) in
-      state_kept an_inst (clone_rows s i) new (record { graph = inst_cloned g i; table = copy_table s.table i }) (refl, refl) e
-      (λ p k.
-      let t-is : copy_table s.table i ≡ with_row s.table r =
-      added (copy_answer s.table i) (with_row s.table r) s.table p.1.1.1.0 in
-      let one : CallsAlive ds g first =
-      call_alive ds k.0 (copied_only g.words (call_list g i 0) (call_list g new 0))
-      (calls_alive s good ds k.0 i 0 (omega arith)) in
-      let two : CallsAlive ds g (calls_copied g i new) =
-      λ d j h. args_only (Fair (Usable ds)) (copied_only first (call_list g i 1) (call_list g new 1)) (one i 1 (omega arith))
-      (call_list g d j) (one d j h) in (
-        subst (RowsAlive ds) (sym t-is) (row_more ds k.0 r (operands_alive s good ds k.0 i.0)),
-        (λ d j h. args_away (Fair (Usable ds)) (written_only (calls_copied g i new) (result_list g new) _) (call_list g d j)
-            (result_away g new d j h) (two d j h)),
-        count_more r ∙ ap count (sym t-is),
-      ))
 
   -- another row and other arguments of an instruction
   inst_kept : (ds : List ValueData) → StayUsable s.graph.defs ds →
@@ -347,8 +189,127 @@ module _ (s t : State) (a : Answer) (good : Good s) (spare : SpareLabels s.graph
         good.counts ∙ sym (length-set s.table.rows i.0 r),
       )
 
-  pub uses_map_inst_values : (i : InstId) (f : Value → Value) → does (map_inst_values i f) s ≡ done a t → UsesKept t
-  uses_map_inst_values i f e =
+  -- each edit, given what flattening does
+  pub uses_kept : (does resolve_all_aliases s ≡ done a t → UsesKept t) → (x : Edit) → does x s ≡ done a t → UsesKept t
+  uses_kept flat make_block e =
+      let g : Graph = s.graph in
+      graph_kept a_block (when (leb g.limits.blocks g.blocks) (Full g.limits.blocks) ∷ []) (block g.blocks)
+      (record { defs = g.defs; blocks = g.blocks + 1; insts = g.insts; words = g.words; labels = g.labels; starts = g.starts; limits = g.limits })
+      (refl, refl, refl) e (λ p k. calls_alive s good s.graph.defs k)
+  uses_kept flat (make_inst_results i ts reuse) e =
+      graph_kept a_number (make_inst_results_rows s.graph i ts reuse) (length ts) (with_results s.graph i ts reuse) (refl, refl, refl) e
+      (λ p k. others_alive _ k (written_only s.graph.words (result_list s.graph i) _) (result_away s.graph i))
+  uses_kept flat (clear_results i) e =
+      graph_kept is_plain (unknown_inst s.graph i ∷ []) tt (without_results s.graph i) (refl, refl, refl) e
+      (λ p k. others_alive _ k (cleared_only s.graph.words (result_list s.graph i)) (result_away s.graph i))
+  uses_kept flat (replace_result v ty) e =
+      let d : ValueData = at s.graph.defs v in
+      graph_kept a_value (replace_rows s.graph v ty (is_result d)) (value (length s.graph.defs))
+      (replaced s.graph (result_list s.graph (inst_of d)) (number d) (Inst ty (number d) (inst_of d))) (refl, refl, refl) e
+      (λ p k. others_alive _ k
+      (changed_only s.graph.words (result_list s.graph (inst_of d)) (number d) (value (length s.graph.defs)))
+      (result_away s.graph (inst_of d)))
+  uses_kept flat (replace_block_param v ty) e =
+      let d : ValueData = at s.graph.defs v in
+      graph_kept a_value (replace_rows s.graph v ty (is_param d)) (value (length s.graph.defs))
+      (replaced s.graph (param_list s.graph (block_of d)) (number d) (Param ty (number d) (block_of d))) (refl, refl, refl) e
+      (λ p k. others_alive _ k
+      (changed_only s.graph.words (param_list s.graph (block_of d)) (number d) (value (length s.graph.defs)))
+      (param_of v p.1.1.1.0))
+  uses_kept flat (remove_block_param v) e =
+      let d : ValueData = at s.graph.defs v in
+      graph_kept is_plain (remove_rows s.graph v) tt (param_removed s.graph (block_of d) (number d)) (refl, refl, refl) e
+      (λ p k. others_alive _ k (removed_at_only s.graph.words (param_list s.graph (block_of d)) (number d)) (param_of v p.1.1.0))
+  uses_kept flat (swap_remove_block_param v) e =
+      let d : ValueData = at s.graph.defs v in
+      graph_kept a_number (remove_rows s.graph v) (number d) (param_swap_removed s.graph (block_of d) (number d)) (refl, refl, refl) e
+      (λ p k. others_alive _ k (swap_removed_at_only s.graph.words (param_list s.graph (block_of d)) (number d)) (param_of v p.1.1.0))
+  uses_kept flat (append_block_param b ty) e =
+      graph_kept a_value (append_param_rows s.graph b ty) (value (length s.graph.defs)) (param_appended s.graph b ty) (refl, refl, refl) e
+      (λ p k. others_alive _ k (pushed_only s.graph.words (param_list s.graph b) (value (length s.graph.defs))) (params_of b p.0))
+  uses_kept flat (attach_block_param b v) e =
+      graph_kept is_plain (attach_param_rows s.graph b v) tt (param_attached s.graph b v) (refl, refl, refl) e
+      (λ p k. others_alive _ k (pushed_only s.graph.words (param_list s.graph b) v) (params_of b p.0))
+  uses_kept flat (detach_block_params b out) e =
+      graph_kept is_detached (detach_rows s.graph b out) (length (params s.graph b), written_over out (params s.graph b))
+      (without_params s.graph b) (refl, refl, refl) e
+      (λ p k. others_alive _ k (cleared_only s.graph.words (param_list s.graph b)) (params_of b p.0))
+  uses_kept flat (change_to_alias d v) e =
+      graph_kept is_plain (change_rows s.graph d v) tt
+      (with_defs s.graph (aliased s.graph.defs d (end_of s.graph.defs v))) (refl, refl, refl) e
+      (λ p k. calls_alive s good _ k)
+  uses_kept flat (replace_with_aliases d i) e =
+      graph_kept is_plain (replace_aliases_rows s.graph d i) tt
+      (without_results (with_defs s.graph (aliased_each s.graph.defs (results s.graph d) (results s.graph i))) d) (refl, refl, refl) e
+      (λ p k. others_alive _ k (cleared_only s.graph.words (result_list s.graph d)) (result_away s.graph d))
+  uses_kept flat (union x y) e =
+      graph_kept a_value (union_rows s.graph x y) (value (length s.graph.defs))
+      (with_defs s.graph (s.graph.defs ++ Union (type (at s.graph.defs x)) x y ∷ [])) (refl, refl, refl) e
+      (λ p k. calls_alive s good _ k)
+  uses_kept flat (append_argument i j arg) e =
+      let l : ℕ = call_list s.graph i j in
+      graph_kept is_plain (append_argument_rows s.graph i j arg) tt (argument_appended s.graph i j arg) (refl, refl, refl) e
+      (λ p k. call_alive s.graph.defs k (pushed_only s.graph.words l (word_of (encoded arg)))
+      (all_appended (Fair (Usable s.graph.defs)) (items_of s.graph.words l) (word_of (encoded arg))
+      (calls_alive s good s.graph.defs k i j (call_of i j p.1.0))
+      (encoded_fair (Usable s.graph.defs) arg p.1.1.1.1.0
+      (usable_values s.graph (in_list (value_of arg)) p.1.1.0 p.1.1.1.0))))
+  uses_kept flat (remove i j n) e =
+      let l : ℕ = call_list s.graph i j in
+      let one : suc n ≡ n + 1 = omega arith in
+      graph_kept is_plain (remove_argument_rows s.graph i j n) tt
+      (with_words s.graph (removed_at s.graph.words l (n + 1))) (refl, refl, refl) e
+      (λ p k. call_alive s.graph.defs k (removed_at_only s.graph.words l (n + 1))
+      (subst (λ (m : ℕ). All (Fair (Usable s.graph.defs)) (drop 1 (removed (items_of s.graph.words l) m))) one
+      (all_removed (Fair (Usable s.graph.defs)) (items_of s.graph.words l) n
+      (calls_alive s good s.graph.defs k i j (call_of i j p.1.0)))))
+  uses_kept flat (set_label v (starts ss)) e =
+      let d = graph_done s is_plain (set_label_rows s.graph v (starts ss)) tt (labelled s.graph v (starts ss)) a t e in
+      label_kept v.0 (Some label.Starts) (written s.graph.starts v.0 ss)
+      (usable_values s.graph (v ∷ []) d.0.0 d.0.1.0).0.0
+      (λ from target q. absurd cc) d.1
+  uses_kept flat (set_label v (alias from target)) e =
+      let d = graph_done s is_plain (set_label_rows s.graph v (alias from target)) tt (labelled s.graph v (alias from target)) a t e in
+      let u = usable_values s.graph (v ∷ target ∷ []) d.0.0 d.0.1.0 in
+      label_kept v.0 (Some (label.Alias from target)) (cleared s.graph.starts v.0) u.0.0
+      (λ f w q. let p : target ≡ w = cc in subst (Usable s.graph.defs) p u.1.0) d.1
+  uses_kept flat (make_inst op os ts) e =
+      let i : InstId = inst s.graph.insts in
+      let r : TableRow = record { opcode = op; operands = os } in
+      state_kept an_inst (make_inst_rows s os ts) i
+      (record { graph = with_inst (with_words s.graph (aimed s.graph i 0 ts s.graph.words)); table = add_table s.table op os })
+      (refl, refl) e
+      (λ p k.
+      let t-is : add_table s.table op os ≡ with_row s.table r =
+      added (add_answer s.table (length os)) (with_row s.table r) s.table p.1.1.1.1.1.1.0 in (
+        subst (RowsAlive s.graph.defs) (sym t-is)
+            (row_more s.graph.defs k.0 r (usable_values s.graph os p.0 p.1.1.0)),
+        (λ d j h. aimed_args (Fair (Usable s.graph.defs)) s.graph i 0 ts s.graph.words (call_list s.graph d j)
+            (calls_alive s good s.graph.defs k.0 d j h)),
+        count_more r ∙ ap count (sym t-is),
+      ))
+  uses_kept flat (clone_inst i) e =
+      let g : Graph = s.graph in
+      let new : InstId = inst g.insts in
+      let r : TableRow = row s.table i.0 in
+      let ds : List ValueData = (inst_cloned g i).defs in
+      let first : Bank Value = copied g.words (call_list g i 0) (call_list g new 0) in
+      state_kept an_inst (clone_rows s i) new (record { graph = inst_cloned g i; table = copy_table s.table i }) (refl, refl) e
+      (λ p k.
+      let t-is : copy_table s.table i ≡ with_row s.table r =
+      added (copy_answer s.table i) (with_row s.table r) s.table p.1.1.1.0 in
+      let one : CallsAlive ds g first =
+      call_alive ds k.0 (copied_only g.words (call_list g i 0) (call_list g new 0))
+      (calls_alive s good ds k.0 i 0 (omega arith)) in
+      let two : CallsAlive ds g (calls_copied g i new) =
+      λ d j h. args_only (Fair (Usable ds)) (copied_only first (call_list g i 1) (call_list g new 1)) (one i 1 (omega arith))
+      (call_list g d j) (one d j h) in (
+        subst (RowsAlive ds) (sym t-is) (row_more ds k.0 r (operands_alive s good ds k.0 i.0)),
+        (λ d j h. args_away (Fair (Usable ds)) (written_only (calls_copied g i new) (result_list g new) _) (call_list g d j)
+            (result_away g new d j h) (two d j h)),
+        count_more r ∙ ap count (sym t-is),
+      ))
+  uses_kept flat (map_inst_values i f) e =
       let U : Value → Type 0 = Usable s.graph.defs in
       let os : List Value = operands s.table i.0 in
       state_kept is_plain (map_rows s i f) tt
@@ -360,9 +321,7 @@ module _ (s t : State) (a : Answer) (good : Good s) (spare : SpareLabels s.graph
       let c = all_split (λ v. U (f v)) (values_in (arguments s.graph i 0)) (values_in (arguments s.graph i 1)) h.1 in
       inst_kept s.graph.defs k.0 i (map f os) (map (renamed_word f)) (map (renamed_word f)) (All-map U f os h.0)
       (renamed_alive U f (arguments s.graph i 0) c.0) (renamed_alive U f (arguments s.graph i 1) c.1))
-
-  pub uses_overwrite_inst_values : (i : InstId) (vs : List Value) → does (overwrite_inst_values i vs) s ≡ done a t → UsesKept t
-  uses_overwrite_inst_values i vs e =
+  uses_kept flat (overwrite_inst_values i vs) e =
       let U : Value → Type 0 = Usable s.graph.defs in
       let os : List Value = operands s.table i.0 in
       let us : List Value = drop (length os) vs in
@@ -383,27 +342,4 @@ module _ (s t : State) (a : Answer) (good : Good s) (spare : SpareLabels s.graph
       inst_kept s.graph.defs k.0 i (take (length os) vs) (λ ws. poured ws us) (λ ws. poured ws (drop m us)) h.0
       (poured_fair U xs us (calls_alive s good s.graph.defs k.0 i 0 (omega arith)) c.0)
       (poured_fair U ys (drop m us) (calls_alive s good s.graph.defs k.0 i 1 (omega arith)) c.1))
-
-  -- each edit, given what flattening does
-  pub uses_kept : (does resolve_all_aliases s ≡ done a t → UsesKept t) → (x : Edit) → does x s ≡ done a t → UsesKept t
-  uses_kept flat make_block = uses_make_block
-  uses_kept flat (make_inst op os ts) = uses_make_inst op os ts
-  uses_kept flat (make_inst_results i ts reuse) = uses_make_inst_results i ts reuse
-  uses_kept flat (clear_results i) = uses_clear_results i
-  uses_kept flat (replace_result v ty) = uses_replace_result v ty
-  uses_kept flat (replace_block_param v ty) = uses_replace_block_param v ty
-  uses_kept flat (remove_block_param v) = uses_remove_block_param v
-  uses_kept flat (swap_remove_block_param v) = uses_swap_remove_block_param v
-  uses_kept flat (append_block_param b ty) = uses_append_block_param b ty
-  uses_kept flat (attach_block_param b v) = uses_attach_block_param b v
-  uses_kept flat (detach_block_params b out) = uses_detach_block_params b out
-  uses_kept flat (clone_inst i) = uses_clone_inst i
-  uses_kept flat (append_argument i j arg) = uses_append_argument i j arg
-  uses_kept flat (remove i j n) = uses_remove i j n
-  uses_kept flat (map_inst_values i f) = uses_map_inst_values i f
-  uses_kept flat (overwrite_inst_values i vs) = uses_overwrite_inst_values i vs
-  uses_kept flat (change_to_alias d v) = uses_change_to_alias d v
-  uses_kept flat (replace_with_aliases d i) = uses_replace_with_aliases d i
-  uses_kept flat (union x y) = uses_union x y
-  uses_kept flat resolve_all_aliases = flat
-  uses_kept flat (set_label v e) = uses_set_label v e
+  uses_kept flat resolve_all_aliases e = flat e

@@ -1,23 +1,21 @@
 -- Words of calls, and the values that they stand for.
-use Rattle.std.proofs.Common.{◌≡◌, ℕ, zero, suc, ◌+◌, ◌*◌, ◌/◌, ◌%◌, ◌^◌, ◌<◌, ◌≤◌, Bool, true, false, cond, ltb, List, [], ◌∷◌, map, length, get_or, take, Some, None, Ok, Err, Option, sym, refl, ap, subst, zero-add, arith}
-use Rattle.std.specs.List.{ContainsAt as Has, AllByRecursion as All}
-use Rattle.std.proofs.ByRecursion.{All-take, all_has_itself, All-get_or, All-map, All-weaker, has_get_or, has_append_left, has_append_right}
+use Rattle.std.proofs.Common.{◌≡◌, ℕ, zero, suc, ◌+◌, ◌*◌, ◌/◌, ◌%◌, ◌^◌, ◌<◌, ◌≤◌, Bool, true, false, cond, ltb, List, [], ◌∷◌, map, length, take, Some, None, Ok, Err, Option, sym, refl, ap, subst, zero-add, arith}
+use Rattle.std.specs.List.{AllByRecursion as All}
+use Rattle.std.proofs.ByRecursion.{All-take, All-map, All-weaker}
 use Rattle.ir.specs.declared.entities.Value.{Value}
-use Rattle.ir.specs.declared.entities.Inst.{Inst as InstId}
 use Rattle.ir.specs.declared.block_arg.BlockArg.{BlockArg}
 use Rattle.ir.specs.declared.block_arg.BlockArg.TheVariants as arg
 use Rattle.ir.specs.declared.fault.PackFault.TheVariants.{Wide}
 use Rattle.ir.specs.Arguments.{read, beside, encoded, value_of}
-use Rattle.table.specs.Table.{operands}
-use Rattle.model.specs.State.{State, value, arguments, argument_value, value_argument, with_value, values_in, call_values, inst_values, no_value}
+use Rattle.model.specs.State.{value, argument_value, value_argument, with_value, values_in}
 use Rattle.model.specs.Edits.{in_list, by_packing, word_of, renamed_argument, renamed_word, poured_one, poured}
 
 -- what a tag and a payload stand for
 read_value : (tag payload word : ℕ) (v : Value) → argument_value (read tag payload word) ≡ Some v → (tag ≡ 0) × (v.0 ≡ payload)
 read_value zero payload word v e = let p : value payload ≡ v = cc in (refl, ap (λ (x : Value). x.0) (sym p))
-read_value (suc zero) payload word v e = let z : ◌≡◌ {A = ℕ} 0 1 = cc in absurd (omega arith)
-read_value (suc (suc zero)) payload word v e = let z : ◌≡◌ {A = ℕ} 0 1 = cc in absurd (omega arith)
-read_value (suc (suc (suc tag))) payload word v e = let z : ◌≡◌ {A = ℕ} 0 1 = cc in absurd (omega arith)
+read_value (suc zero) payload word v e = absurd cc
+read_value (suc (suc zero)) payload word v e = absurd cc
+read_value (suc (suc (suc tag))) payload word v e = absurd cc
 
 -- a word below 2^30 is a value argument,
 pub small_word : (w : Value) → w.0 < 2 ^ 30 → value_argument w ≡ Some w
@@ -53,7 +51,7 @@ beside_fair P tag payload e h = by (ltb payload 1073741824) e
     by : (b : Bool) → by_packing (cond b (Ok (tag * 1073741824 + payload)) (Err (Wide payload))) ≡ None →
         Fair P (word_of (cond b (Ok (tag * 1073741824 + payload)) (Err (Wide payload))))
     by true q = h
-    by false q = let z : ◌≡◌ {A = ℕ} 0 1 = cc in absurd (omega arith)
+    by false q = absurd cc
 
 -- an argument as a word: a marked one stands for no value
 pub encoded_fair : (P : Value → Type 0) (a : BlockArg) → by_packing (encoded a) ≡ None → All P (in_list (value_of a)) →
@@ -67,15 +65,8 @@ pub renamed_fair : (P : Value → Type 0) (f : Value → Value) (w : Value) → 
 renamed_fair P f w h = by (value_argument w) refl
   where
     by : (o : Option Value) → value_argument w ≡ o → Fair P (renamed_argument f w o)
-    by None e = λ u q. let z : ◌≡◌ {A = ℕ} 0 1 = cc in absurd (omega arith)
+    by None e = λ u q. absurd cc
     by (Some v) e = fair_value P (f v) (h v e)
-
--- word by word
-pub renamed_value : (f : Value → Value) (w v : Value) → value_argument w ≡ Some v → renamed_word f w ≡ f v
-renamed_value f w v e = ap (renamed_argument f w) e
-
-pub renamed_marked : (f : Value → Value) (w : Value) → value_argument w ≡ None → renamed_word f w ≡ w
-renamed_marked f w e = ap (renamed_argument f w) e
 
 -- Of words, P holds of the values among them exactly where it holds of what each stands for.
 pub fair_from_values : (P : Value → Type 0) (ws : List Value) → All P (values_in ws) → All (Fair P) ws
@@ -85,39 +76,8 @@ fair_from_values P (w ∷ ws) h = by (value_argument w) refl (fair_from_values P
     by : (o : Option Value) → value_argument w ≡ o → (All P (values_in ws) → All (Fair P) ws) →
         All P (with_value o (values_in ws)) →
         All (Fair P) (w ∷ ws)
-    by None e rest q = ((λ u r. let z : ◌≡◌ {A = ℕ} 0 1 = cc in absurd (omega arith)), rest q)
+    by None e rest q = ((λ u r. absurd cc), rest q)
     by (Some v) e rest q = ((λ u r. let p : v ≡ u = cc in subst P p q.0), rest q.1)
-
-pub values_from_fair : (P : Value → Type 0) (ws : List Value) → All (Fair P) ws → All P (values_in ws)
-values_from_fair P [] h = tt
-values_from_fair P (w ∷ ws) h = by (value_argument w) refl (values_from_fair P ws h.1)
-  where
-    by : (o : Option Value) → value_argument w ≡ o → All P (values_in ws) → All P (with_value o (values_in ws))
-    by None e rest = rest
-    by (Some v) e rest = (h.0 v e, rest)
-
--- the value of an argument is among the values of the words
-pub has_argument : (ws : List Value) (k : ℕ) (v : Value) → k < length ws → value_argument (get_or ws k no_value) ≡ Some v →
-    Has (values_in ws) v
-has_argument ws k v h e =
-    All-get_or (Fair (Has (values_in ws))) ws k no_value h
-    (fair_from_values (Has (values_in ws)) ws (all_has_itself (values_in ws))) v e
-
--- and so among what its instruction uses, as an operand is
-pub has_operand : (s : State) (i : InstId) (k : ℕ) → k < length (operands s.table i.0) →
-    Has (inst_values s i) (get_or (operands s.table i.0) k no_value)
-has_operand s i k h =
-    has_append_left (operands s.table i.0) (call_values s.graph i) _ (has_get_or (operands s.table i.0) k no_value h)
-
-pub has_inst_argument : (s : State) (i : InstId) (j k : ℕ) (v : Value) → j < 2 → k < length (arguments s.graph i j) →
-    value_argument (get_or (arguments s.graph i j) k no_value) ≡ Some v → Has (inst_values s i) v
-has_inst_argument s i j k v l h e =
-    has_append_right (operands s.table i.0) (call_values s.graph i) v (by j l (has_argument (arguments s.graph i j) k v h e))
-  where
-    by : (j : ℕ) → j < 2 → Has (values_in (arguments s.graph i j)) v → Has (call_values s.graph i) v
-    by zero l m = has_append_left (values_in (arguments s.graph i 0)) (values_in (arguments s.graph i 1)) v m
-    by (suc zero) l m = has_append_right (values_in (arguments s.graph i 0)) (values_in (arguments s.graph i 1)) v m
-    by (suc (suc j)) l m = absurd (omega arith)
 
 -- words with other values poured in
 pub poured_fair : (P : Value → Type 0) (ws vs : List Value) → All (Fair P) ws → All P (take (length (values_in ws)) vs) →

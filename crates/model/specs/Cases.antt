@@ -1,5 +1,5 @@
 -- The nine worked cases: seven of the packing, and two of edits.
-use Rattle.std.specs.Prelude.{◌≡◌, List, [], ◌∷◌, replicate, Result}
+use Rattle.std.specs.Prelude.{◌≡◌, List, [], ◌∷◌, replicate, Result, None}
 use Rattle.ir.specs.declared.entities.Type.{«Type» as Ty}
 use Rattle.ir.specs.declared.value_data.ValueData.TheVariants.{Param}
 use Rattle.ir.specs.declared.block_arg.BlockArg.TheVariants.{Value as ValueArg, TryCallRet}
@@ -9,7 +9,6 @@ use Rattle.store.specs.Bank.{fresh}
 use Rattle.table.specs.Table.{empty, operands}
 use Rattle.values.specs.Leads.{at}
 use Rattle.model.specs.declared.fault.GraphFault.{GraphFault}
-use Rattle.model.specs.declared.labels.Label.TheVariants as label
 use Rattle.model.specs.State.{State, value, inst, block, params, call}
 use Rattle.model.specs.Runs.{Edit, Answer, Runs, make_block, append_block_param, remove_block_param, make_inst, append_argument, change_to_alias, resolve_all_aliases}
 
@@ -23,7 +22,7 @@ small =
             blocks = 0;
             insts = 0;
             words = fresh 8 8;
-            labels = replicate 4 label.Absent;
+            labels = replicate 4 None;
             starts = fresh 4 4;
             limits = record { values = 4; blocks = 2; insts = 2 };
           };

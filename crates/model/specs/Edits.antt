@@ -1,5 +1,6 @@
 -- What each edit does, and when it is refused: its rows stand in the order of their numbers.
-use Rattle.std.specs.Prelude.{ℕ, ◌+◌, ◌-◌, min, Bool, true, false, cond, not, ◌&&◌, ◌||◌, nat_le, List, [], ◌∷◌, ◌++◌, map, length, take, drop, Some, None, Ok, Err, Option, Result, ◌==◌, nat_lt, slice_index_or, slice_set}
+use Rattle.std.specs.Prelude.{ℕ, ◌+◌, ◌-◌, min, Bool, false, cond, not, ◌&&◌, ◌||◌, nat_le, List, [], ◌∷◌, ◌++◌, map, length, take, drop, Some, None, Ok, Err, Option, Result, ◌==◌, nat_lt, slice_index_or, slice_set}
+use Rattle.std.specs.Option.{is_some}
 use Rattle.ir.specs.declared.entities.Value.{Value}
 use Rattle.ir.specs.declared.entities.Inst.{Inst as InstId}
 use Rattle.ir.specs.declared.entities.Block.{Block}
@@ -11,6 +12,7 @@ use Rattle.ir.specs.declared.block_arg.BlockArg.{BlockArg}
 use Rattle.ir.specs.declared.fault.PackFault.{PackFault}
 use Rattle.ir.specs.declared.fault.PackFault.TheVariants.{Wide}
 use Rattle.ir.specs.Packing.{type, retired}
+use Rattle.ir.specs.Definitions.{param_of, result_of}
 use Rattle.ir.specs.Arguments.{encoded, value_of}
 use Rattle.store.specs.Bank.{Bank, items_of, class_of, holding, pushed, changed, removed_at, swap_removed_at, cleared, written, copied, fault_push, fault_write, fault_for}
 use Rattle.table.specs.Table.{Table, count, row, operands, add_answer, add_table, copy_answer, copy_table}
@@ -66,16 +68,10 @@ long vs = when (nat_le 65536 (length vs)) Long
 
 -- what a definition says of where its value stands
 abbrev pub is_result : ValueData → Bool
-is_result (Inst ty n i) = true
-is_result (Param ty n b) = false
-is_result (Alias ty original) = false
-is_result (Union ty x y) = false
+is_result d = is_some (result_of d)
 
 abbrev pub is_param : ValueData → Bool
-is_param (Inst ty n i) = false
-is_param (Param ty n b) = true
-is_param (Alias ty original) = false
-is_param (Union ty x y) = false
+is_param d = is_some (param_of d)
 
 abbrev pub number : ValueData → ℕ
 number (Inst ty n i) = n
@@ -537,12 +533,12 @@ abbrev pub set_label_rows : Graph → Value → Entry → List Row
 set_label_rows g v e =
     unknown_values g (v ∷ entry_target e) ∷ retired_values g (v ∷ entry_target e) ∷ entry_rows g v e ∷ []
 
-abbrev pub with_labels : Graph → List Label → Bank Start → Graph
+abbrev pub with_labels : Graph → List (Option Label) → Bank Start → Graph
 with_labels g ls b = record { defs = g.defs; blocks = g.blocks; insts = g.insts; words = g.words; labels = ls; starts = b; limits = g.limits }
 
 abbrev pub labelled : Graph → Value → Entry → Graph
-labelled g v (starts ss) = with_labels g (slice_set g.labels v.0 label.Starts) (written g.starts v.0 ss)
-labelled g v (alias from target) = with_labels g (slice_set g.labels v.0 (label.Alias from target)) (cleared g.starts v.0)
+labelled g v (starts ss) = with_labels g (slice_set g.labels v.0 (Some label.Starts)) (written g.starts v.0 ss)
+labelled g v (alias from target) = with_labels g (slice_set g.labels v.0 (Some (label.Alias from target))) (cleared g.starts v.0)
 
 abbrev pub set_label : Value → Entry → Graph → Outcome (Unit {0}) Graph
 set_label v e g = settle (set_label_rows g v e) tt (labelled g v e)

@@ -1,5 +1,5 @@
 -- resolve_all_aliases, called flattening: every use of an alias becomes what the alias led to, and the alias is retired.
-use Rattle.std.specs.Prelude.{ℕ, zero, suc, ◌+◌, Bool, true, false, cond, ◌||◌, List, [], ◌∷◌, ◌++◌, map, Some, None}
+use Rattle.std.specs.Prelude.{ℕ, zero, suc, ◌+◌, Bool, true, false, cond, ◌||◌, List, [], ◌∷◌, ◌++◌, map, Some, None, Option}
 use Rattle.ir.specs.declared.entities.Value.{Value}
 use Rattle.ir.specs.declared.value_data.ValueData.{ValueData}
 use Rattle.ir.specs.declared.value_data.ValueData.TheVariants.{Inst, Param, Alias, Union}
@@ -48,14 +48,14 @@ all_calls_renamed g f zero b = b
 all_calls_renamed g f (suc n) b = calls_renamed g f (inst n) (all_calls_renamed g f n b)
 
 -- labels on live aliases are dropped, with their starts; other labels' targets become what they led to
-abbrev pub retargeted : List ValueData → Label → Label
-retargeted ds label.Absent = label.Absent
-retargeted ds label.Starts = label.Starts
-retargeted ds (label.Alias from target) = label.Alias from (end_of ds target)
+abbrev pub retargeted : List ValueData → Option Label → Option Label
+retargeted ds None = None
+retargeted ds (Some label.Starts) = Some label.Starts
+retargeted ds (Some (label.Alias from target)) = Some (label.Alias from (end_of ds target))
 
-abbrev pub relabelled : List ValueData → ℕ → List Label → List Label
+abbrev pub relabelled : List ValueData → ℕ → List (Option Label) → List (Option Label)
 relabelled ds n [] = []
-relabelled ds n (l ∷ ls) = cond (live (at ds (value n))) label.Absent (retargeted ds l) ∷ relabelled ds (n + 1) ls
+relabelled ds n (l ∷ ls) = cond (live (at ds (value n))) None (retargeted ds l) ∷ relabelled ds (n + 1) ls
 
 abbrev pub starts_dropped : ℕ → List ValueData → Bank Start → Bank Start
 starts_dropped n [] b = b

@@ -1,10 +1,14 @@
 -- What a refusal of the graph says: its number, the layer that gives it, and what was found.
-use Rattle.std.specs.Prelude.{ℕ, Bool, cond, List, [], ◌∷◌, Some, None, Ok, Err, Option, Result}
+use Rattle.std.specs.Prelude.{ℕ, ◌≤◌, Bool, cond, List, [], ◌∷◌, Some, None, Ok, Err, Option, Result}
+use Rattle.std.proofs.Common.{rules}
 use Rattle.ir.specs.declared.fault.Layer.TheVariants as layer
+use Rattle.ir.specs.declared.fault.PackFault.TheVariants as pack
 use Rattle.ir.specs.Refusals.{Refusal, refusal as packing-refusal}
 use Rattle.store.specs.declared.parts.PoolFault.{PoolFault}
-use Rattle.store.specs.Faults.{number as pool-number, detail as pool-detail}
+use Rattle.store.specs.declared.parts.PoolFault.TheVariants as pool
+use Rattle.store.specs.Faults.{refusal as pool-refusal}
 use Rattle.table.specs.declared.fault.TableFault.{TableFault}
+use Rattle.table.specs.declared.fault.TableFault.TheVariants as table
 use Rattle.table.specs.Refusals.{refusal as table-refusal}
 use Rattle.model.specs.declared.fault.GraphFault.{GraphFault}
 use Rattle.model.specs.declared.fault.GraphFault.TheVariants.{Unknown, Retired, Kind, Loose, Attached, Types, Loop, Count, Side, Twice, Full, Long, Packing, Pool, Table}
@@ -26,8 +30,29 @@ refusal (Twice v) = of_graph 12 v
 refusal (Full n) = of_graph 13 n
 refusal Long = of_graph 15 65536
 refusal (Packing f) = packing-refusal f
-refusal (Pool f) = record { number = pool-number f; layer = layer.Pool; detail = pool-detail f }
+refusal (Pool f) = pool-refusal f
 refusal (Table f) = table-refusal f
+
+-- its number is a row's
+pub is_numbered : (f : GraphFault) → (1 ≤ (refusal f).number) × ((refusal f).number ≤ 15)
+is_numbered (Unknown n) = search rules
+is_numbered (Retired v) = search rules
+is_numbered (Kind v) = search rules
+is_numbered (Loose v) = search rules
+is_numbered (Attached v) = search rules
+is_numbered (Types v) = search rules
+is_numbered (Loop v) = search rules
+is_numbered (Count n) = search rules
+is_numbered (Side v) = search rules
+is_numbered (Twice v) = search rules
+is_numbered (Full n) = search rules
+is_numbered Long = search rules
+is_numbered (Packing (pack.Wide n)) = search rules
+is_numbered (Packing (pack.Tag w)) = search rules
+is_numbered (Pool (pool.Unknown n)) = search rules
+is_numbered (Pool (pool.NoBlock n)) = search rules
+is_numbered (Table (table.Unknown n)) = search rules
+is_numbered (Table (table.Full n)) = search rules
 
 -- A row of a call's refusals: nothing where its condition does not hold, else what is answered.
 abbrev pub Row : Type 0

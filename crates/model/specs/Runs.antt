@@ -1,5 +1,5 @@
 -- Edits as values, runs of them, and when two graphs are equal.
-use Rattle.std.specs.Prelude.{◌≡◌, ℕ, ◌+◌, ◌*◌, ◌^◌, ◌<◌, ◌≤◌, List, [], ◌∷◌, length, replicate, Ok, Err, Option, Result}
+use Rattle.std.specs.Prelude.{◌≡◌, ℕ, ◌+◌, ◌*◌, ◌^◌, ◌<◌, ◌≤◌, List, [], ◌∷◌, length, replicate, Ok, Err, Option, Result, None}
 use Rattle.ir.specs.declared.entities.Value.{Value}
 use Rattle.ir.specs.declared.entities.Inst.{Inst as InstId}
 use Rattle.ir.specs.declared.entities.Block.{Block}
@@ -10,7 +10,6 @@ use Rattle.store.specs.Bank.{fresh}
 use Rattle.table.specs.Table.{count, row}
 use Rattle.values.specs.Leads.{at}
 use Rattle.model.specs.declared.fault.GraphFault.{GraphFault}
-use Rattle.model.specs.declared.labels.Label.TheVariants as label
 use Rattle.model.specs.Refusals.{Outcome, done, refused}
 use Rattle.model.specs.State.{Graph, State, Entry, params, results, call, entry}
 use Rattle.model.specs.Edits as edit
@@ -106,7 +105,7 @@ pub record New (s : State) : Type 0 where
   pub cells : ℕ
   pub empty_words : s.graph.words ≡ fresh lists cells
   pub lists_enough : s.graph.limits.blocks + 3 * s.graph.limits.insts ≤ lists
-  pub no_labels : s.graph.labels ≡ replicate s.graph.limits.values label.Absent
+  pub no_labels : s.graph.labels ≡ replicate s.graph.limits.values None
   pub start_lists : ℕ
   pub start_cells : ℕ
   pub empty_starts : s.graph.starts ≡ fresh start_lists start_cells

@@ -28,7 +28,7 @@ pub record Graph : Type 0 where
   pub blocks : ℕ
   pub insts : ℕ
   pub words : Bank Value
-  pub labels : List Label
+  pub labels : List (Option Label)
   pub starts : Bank Start
   pub limits : Limits
 
@@ -101,13 +101,13 @@ pub data Entry : Type 0 where
   starts : List Start → Entry
   alias : ℕ → Value → Entry
 
-abbrev pub as_entry : Label → List Start → Option Entry
-as_entry label.Absent ss = None
-as_entry label.Starts ss = Some (starts ss)
-as_entry (label.Alias from target) ss = Some (alias from target)
+abbrev pub as_entry : Option Label → List Start → Option Entry
+as_entry None ss = None
+as_entry (Some label.Starts) ss = Some (starts ss)
+as_entry (Some (label.Alias from target)) ss = Some (alias from target)
 
-abbrev pub label_at : Graph → Value → Label
-label_at g v = slice_index_or g.labels v.0 label.Absent
+abbrev pub label_at : Graph → Value → Option Label
+label_at g v = slice_index_or g.labels v.0 None
 
 -- a value has at most one entry
 abbrev pub entry : Graph → Value → Option Entry

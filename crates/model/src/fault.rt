@@ -6,7 +6,7 @@ use store::parts::PoolFault;
 use table::fault::TableFault;
 
 // Why the graph refuses a call. What a layer below refuses travels whole.
-#[derive(Clone, Copy)]
+#[derive(Clone, Copy, PartialEq, Eq)]
 pub enum GraphFault {
     // A number or place that does not exist.
     Unknown(u32),

@@ -7,10 +7,9 @@ pub struct Start {
     pub label: u32,
 }
 
-// What is kept of a value's label; the starts lie in a list of their own.
+// What is kept of a value's label, where it has one; the starts lie in a list of their own.
 #[derive(Clone, Copy)]
 pub enum Label {
-    Absent,
     Starts,
     Alias { from: u32, value: Value },
 }

@@ -1,58 +1,56 @@
-ghost use Rattle.std.specs.Prelude.{◌≡◌};
-ghost use Rattle.model.specs.Refusals.{refusal};
+ghost use Rattle.model.specs.Refusals.{is_numbered, refusal};
 
 use crate::fault::GraphFault;
-use ir::fault::Layer;
+use ir::fault::{Fault, Layer};
+use ir::reason::Reason;
 
-impl GraphFault {
-    pub fn number(self) -> u32
-        ensures { result ≡ (refusal self).number }
-    {
+impl Fault for GraphFault {
+    ghost told = { refusal };
+
+    ghost numbered = { is_numbered };
+
+    fn reason(self) -> Reason {
         match self {
-            GraphFault::Unknown(_) => 1,
-            GraphFault::Retired(_) => 2,
-            GraphFault::Kind(_) => 5,
-            GraphFault::Loose(_) => 6,
-            GraphFault::Attached(_) => 7,
-            GraphFault::Types(_) => 8,
-            GraphFault::Loop(_) => 9,
-            GraphFault::Count(_) => 10,
-            GraphFault::Side(_) => 11,
-            GraphFault::Twice(_) => 12,
-            GraphFault::Full(_) => 13,
-            GraphFault::Long => 15,
-            GraphFault::Packing(fault) => fault.number(),
-            GraphFault::Pool(fault) => fault.number() as u32,
-            GraphFault::Table(fault) => fault.number() as u32,
+            GraphFault::Unknown(_) => Reason::Unknown,
+            GraphFault::Retired(_) => Reason::Retired,
+            GraphFault::Kind(_) => Reason::Kind,
+            GraphFault::Loose(_) => Reason::Loose,
+            GraphFault::Attached(_) => Reason::Attached,
+            GraphFault::Types(_) => Reason::Types,
+            GraphFault::Loop(_) => Reason::Loop,
+            GraphFault::Count(_) => Reason::Count,
+            GraphFault::Side(_) => Reason::Side,
+            GraphFault::Twice(_) => Reason::Twice,
+            GraphFault::Full(_) => Reason::Full,
+            GraphFault::Long => Reason::Long,
+            GraphFault::Packing(fault) => fault.reason(),
+            GraphFault::Pool(fault) => fault.reason(),
+            GraphFault::Table(fault) => fault.reason(),
         }
     }
 
-    pub fn layer(self) -> Layer
-        ensures { result ≡ (refusal self).layer }
-    {
+    fn layer(self) -> Layer {
         match self {
-            GraphFault::Packing(_) => Layer::Packing,
-            GraphFault::Pool(_) => Layer::Pool,
-            GraphFault::Table(_) => Layer::Table,
+            GraphFault::Packing(fault) => fault.layer(),
+            GraphFault::Pool(fault) => fault.layer(),
+            GraphFault::Table(fault) => fault.layer(),
             _ => Layer::Graph,
         }
     }
 
-    pub fn detail(self) -> u32
-        ensures { result ≡ (refusal self).detail }
-    {
+    fn detail(self) -> u32 {
         match self {
-            GraphFault::Unknown(found) => found,
-            GraphFault::Retired(found) => found,
-            GraphFault::Kind(found) => found,
-            GraphFault::Loose(found) => found,
-            GraphFault::Attached(found) => found,
-            GraphFault::Types(found) => found,
-            GraphFault::Loop(found) => found,
-            GraphFault::Count(found) => found,
-            GraphFault::Side(found) => found,
-            GraphFault::Twice(found) => found,
-            GraphFault::Full(found) => found,
+            GraphFault::Unknown(found)
+            | GraphFault::Retired(found)
+            | GraphFault::Kind(found)
+            | GraphFault::Loose(found)
+            | GraphFault::Attached(found)
+            | GraphFault::Types(found)
+            | GraphFault::Loop(found)
+            | GraphFault::Count(found)
+            | GraphFault::Side(found)
+            | GraphFault::Twice(found)
+            | GraphFault::Full(found) => found,
             GraphFault::Long => 65536,
             GraphFault::Packing(fault) => fault.detail(),
             GraphFault::Pool(fault) => fault.detail(),

@@ -1,20 +1,8 @@
--- A judgement that also tells where a value stands.
-use Rattle.std.specs.Prelude.{◌≡◌, ℕ, List, Some, None, Ok, Err, Result}
-use Rattle.ir.specs.declared.entities.Inst.{Inst}
-use Rattle.ir.specs.declared.entities.Block.{Block}
-use Rattle.ir.specs.declared.value_data.ValueData.{ValueData}
+-- What a call leaves in memory that its caller lends.
+use Rattle.std.specs.Prelude.{◌≡◌, ℕ, List, Ok, Err, Result}
 use Rattle.model.specs.declared.fault.GraphFault.{GraphFault}
-use Rattle.model.specs.Refusals.{Row, Outcome, done, refused}
+use Rattle.model.specs.Refusals.{Outcome, done, refused}
 use Rattle.ir.specs.declared.entities.Value.{Value}
-use Rattle.model.specs.Edits.{block_of, inst_of, number}
-
-abbrev pub place_of_param : Row → ValueData → Result (ℕ × Block) GraphFault
-place_of_param None d = Ok (number d, block_of d)
-place_of_param (Some f) d = Err f
-
-abbrev pub place_of_result : Row → ValueData → Result (ℕ × Inst) GraphFault
-place_of_result None d = Ok (number d, inst_of d)
-place_of_result (Some f) d = Err f
 
 -- an outcome with what the caller's memory then holds
 abbrev pub with_memory : {S : Type 0} → Result ℕ GraphFault → List Value → S → Outcome (ℕ × List Value) S

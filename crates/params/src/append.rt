@@ -1,7 +1,7 @@
 ghost use Rattle.std.specs.Prelude.{◌≡◌};
 ghost use Rattle.model.specs.Refusals.{first, outcome};
 ghost use Rattle.model.specs.Edits.{append_block_param, append_param_rows, attach_block_param, attach_param_rows};
-ghost use Rattle.defs.specs.Graphs.{Kept, Sound, graph_of, judged};
+ghost use Rattle.defs.specs.Graphs.{Kept, graph_of, judged};
 
 use defs::judges::narrow_type;
 use defs::state::Defs;
@@ -10,7 +10,6 @@ use ir::value_data::ValueData;
 use model::fault::GraphFault;
 
 fn judge(defs: &Defs<'_>, block: Block, ty: Type) -> Result<(), GraphFault>
-    requires { Sound defs.now }
     ensures { result ≡ judged (first (append_param_rows (graph_of defs.now) block ty)) }
 {
     defs.known_block(block)?;
@@ -22,8 +21,6 @@ fn judge(defs: &Defs<'_>, block: Block, ty: Type) -> Result<(), GraphFault>
 
 // A new parameter of a block, after its others.
 pub fn append_block_param(defs: &mut Defs<'_>, block: Block, ty: Type) -> Result<Value, GraphFault>
-    requires sound { Sound defs.old }
-    ensures sound { Sound defs.new }
     ensures says { outcome result (graph_of defs.new) ≡ append_block_param block ty (graph_of defs.old) }
     ensures kept { Kept result defs.old defs.new }
 {
@@ -35,7 +32,6 @@ pub fn append_block_param(defs: &mut Defs<'_>, block: Block, ty: Type) -> Result
 }
 
 fn judge_attach(defs: &Defs<'_>, block: Block, v: Value) -> Result<(), GraphFault>
-    requires { Sound defs.now }
     ensures { result ≡ judged (first (attach_param_rows (graph_of defs.now) block v)) }
 {
     defs.known_block(block)?;
@@ -48,8 +44,6 @@ fn judge_attach(defs: &Defs<'_>, block: Block, v: Value) -> Result<(), GraphFaul
 
 // A loose value as the next parameter of a block. It keeps its type.
 pub fn attach_block_param(defs: &mut Defs<'_>, block: Block, v: Value) -> Result<(), GraphFault>
-    requires sound { Sound defs.old }
-    ensures sound { Sound defs.new }
     ensures says { outcome result (graph_of defs.new) ≡ attach_block_param block v (graph_of defs.old) }
     ensures kept { Kept result defs.old defs.new }
 {

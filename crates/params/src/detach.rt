@@ -1,7 +1,7 @@
 ghost use Rattle.std.specs.Prelude.{◌≡◌, ◌≤◌, ◌++◌, length, drop};
 ghost use Rattle.model.specs.Refusals.{first};
 ghost use Rattle.model.specs.Edits.{detach_block_params, detach_rows};
-ghost use Rattle.defs.specs.Graphs.{Kept, Sound, graph_of, judged};
+ghost use Rattle.defs.specs.Graphs.{Kept, graph_of, judged};
 ghost use Rattle.params.specs.Places.{Untouched, with_memory};
 
 use defs::state::Defs;
@@ -10,7 +10,6 @@ use model::fault::GraphFault;
 
 // The memory must hold the list. No list is longer than 2^30, so a memory that is too short has a 32-bit length.
 fn judge(defs: &Defs<'_>, block: Block, out: &[Value]) -> Result<(), GraphFault>
-    requires { Sound defs.now }
     ensures { result ≡ judged (first (detach_rows (graph_of defs.now) block out.now)) }
 {
     defs.known_block(block)?;
@@ -26,9 +25,7 @@ fn copy_out(words: &[Value], out: &mut [Value])
     requires { length words.now ≤ length out.old }
     ensures { out.new ≡ words.now ++ drop (length words.now) out.old }
 {
-    let count = words.len();
-    let front = &mut out[0..count];
-    front.copy_from_slice(words);
+    out[..words.len()].copy_from_slice(words);
 }
 
 // Empties a block's list and writes what it held to the start of the caller's memory. Answers how many there were.
@@ -37,8 +34,6 @@ pub fn detach_block_params(
     block: Block,
     out: &mut [Value],
 ) -> Result<u32, GraphFault>
-    requires sound { Sound defs.old }
-    ensures sound { Sound defs.new }
     ensures says { with_memory result out.new (graph_of defs.new) ≡ detach_block_params block out.old (graph_of defs.old) }
     ensures kept { Kept result defs.old defs.new }
     ensures memory { Untouched result out.old out.new }

@@ -1,7 +1,6 @@
 #![tactic(auto)]
 
-// The edits of blocks and their parameters, on the graph's plain data. They are public for the graph above alone, which
-// holds the data sound.
+// The edits of blocks and their parameters, on the graph's data, for the graph above.
 pub mod append;
 pub mod detach;
 pub mod remove;

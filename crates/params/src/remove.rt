@@ -1,11 +1,12 @@
-ghost use Rattle.std.specs.Prelude.{◌≡◌, ◌+◌, ◌-◌, ◌<◌, ◌≤◌, length, drop, if◌then◌else◌, nat_lt, slice_set};
+ghost use Rattle.std.specs.Prelude.{◌≡◌, true, None, Some, Ok, Err, OnOk, ◌+◌, ◌-◌, ◌<◌, ◌≤◌, length, drop, if◌then◌else◌, nat_lt, slice_set};
 ghost use Rattle.store.specs.Bank.{items_of};
 ghost use Rattle.values.specs.Defs.{Narrow};
 ghost use Rattle.values.specs.Leads.{at};
 ghost use Rattle.model.specs.Refusals.{first, outcome};
 ghost use Rattle.model.specs.Edits.{last_of, lowered, moved, number, numbered, remove_block_param, remove_rows, swap_remove_block_param, with_defs};
-ghost use Rattle.defs.specs.Graphs.{Kept, Sound, graph_of};
-ghost use Rattle.params.specs.Places.{place_of_param};
+ghost use Rattle.defs.specs.Graphs.{Kept, graph_of};
+ghost use Rattle.ir.specs.Definitions.{param_of};
+ghost use Rattle.model.specs.State.{attached};
 
 use defs::state::Defs;
 use ir::entities::{Block, Value};
@@ -14,17 +15,14 @@ use model::fault::GraphFault;
 
 // The number and the block of an attached parameter.
 fn judge_remove(defs: &Defs<'_>, v: Value) -> Result<(u16, Block), GraphFault>
-    requires { Sound defs.now }
-    ensures { result ≡ place_of_param (first (remove_rows (graph_of defs.now) v)) (at (graph_of defs.now).defs v) }
+    ensures says { elim result [ Ok p ↦ (first (remove_rows (graph_of defs.now) v) ≡ None) × (param_of (at (graph_of defs.now).defs v) ≡ Some p) | Err f ↦ first (remove_rows (graph_of defs.now) v) ≡ Some f ] }
+    ensures stands { OnOk result (attached (graph_of defs.now) v ≡ true) }
 {
     defs.known_value(v)?;
     defs.unretired_value(v)?;
-    let (num, block) = match defs.values.read(v) {
-        ValueData::Param { num, block, .. } => (num, block),
-        _ => return Err(GraphFault::Kind(v.0)),
-    };
+    let place = defs.values.read(v).as_param().ok_or(GraphFault::Kind(v.0))?;
     defs.attached_value(v)?;
-    Ok((num, block))
+    Ok(place)
 }
 
 // A parameter with another number; every other definition stays.
@@ -53,8 +51,6 @@ fn number_below(data: ValueData) -> u16
 
 // Gives a parameter another number.
 fn renumber(defs: &mut Defs<'_>, v: Value, num: u16)
-    requires sound { Sound defs.old }
-    ensures sound { Sound defs.new }
     ensures holds { graph_of defs.new ≡ with_defs (graph_of defs.old) (slice_set (graph_of defs.old).defs v.0 (numbered num (at (graph_of defs.old).defs v))) }
 {
     let data = numbered_as(defs.values.read(v), num);
@@ -65,20 +61,17 @@ fn renumber(defs: &mut Defs<'_>, v: Value, num: u16)
 
 // Lowers a parameter's number by one.
 fn lower(defs: &mut Defs<'_>, v: Value)
-    requires sound { Sound defs.old }
-    ensures sound { Sound defs.new }
     ensures holds { graph_of defs.new ≡ with_defs (graph_of defs.old) (slice_set (graph_of defs.old).defs v.0 (numbered (number (at (graph_of defs.old).defs v) - 1) (at (graph_of defs.old).defs v))) }
 {
     let num = number_below(defs.values.read(v));
     renumber(defs, v, num);
 }
 
-// Lowers the numbers of the parameters in a list from a place on.
+// Lowers the numbers of the parameters in a list from a place on. By place: a list is not lent by one field of the
+// data while another is written.
 fn lower_from(defs: &mut Defs<'_>, list: u32, from: u32)
-    requires sound { Sound defs.old }
     requires within { list < length (graph_of defs.old).words.lists }
     requires place { from ≤ length (items_of (graph_of defs.old).words list) }
-    ensures sound { Sound defs.new }
     ensures holds { graph_of defs.new ≡ with_defs (graph_of defs.old) (lowered (graph_of defs.old).defs (drop from (items_of (graph_of defs.old).words list))) }
 {
     let count = defs.len(list);
@@ -90,8 +83,6 @@ fn lower_from(defs: &mut Defs<'_>, list: u32, from: u32)
 
 // Takes a parameter out of its block's list; the later ones move up.
 pub fn remove_block_param(defs: &mut Defs<'_>, v: Value) -> Result<(), GraphFault>
-    requires sound { Sound defs.old }
-    ensures sound { Sound defs.new }
     ensures says { outcome result (graph_of defs.new) ≡ remove_block_param v (graph_of defs.old) }
     ensures kept { Kept result defs.old defs.new }
 {
@@ -103,8 +94,6 @@ pub fn remove_block_param(defs: &mut Defs<'_>, v: Value) -> Result<(), GraphFaul
 
 // Takes a parameter out of its block's list; the last one moves into the gap. Answers the place.
 pub fn swap_remove_block_param(defs: &mut Defs<'_>, v: Value) -> Result<u32, GraphFault>
-    requires sound { Sound defs.old }
-    ensures sound { Sound defs.new }
     ensures says { outcome result (graph_of defs.new) ≡ swap_remove_block_param v (graph_of defs.old) }
     ensures kept { Kept result defs.old defs.new }
 {
@@ -116,10 +105,8 @@ pub fn swap_remove_block_param(defs: &mut Defs<'_>, v: Value) -> Result<u32, Gra
 
 // Gives the last parameter of a list the number of the place that it is to move to.
 fn move_last(defs: &mut Defs<'_>, list: u32, num: u16)
-    requires sound { Sound defs.old }
     requires within { list < length (graph_of defs.old).words.lists }
     requires place { num < length (items_of (graph_of defs.old).words list) }
-    ensures sound { Sound defs.new }
     ensures holds { graph_of defs.new ≡ with_defs (graph_of defs.old) (if nat_lt (num + 1) (length (items_of (graph_of defs.old).words list)) then moved (graph_of defs.old).defs (last_of (items_of (graph_of defs.old).words list)) num else (graph_of defs.old).defs) }
 {
     let last = defs.len(list) - 1;

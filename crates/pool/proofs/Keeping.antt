@@ -9,10 +9,10 @@ use Rattle.store.specs.declared.parts.PoolFault.{PoolFault}
 use Rattle.store.specs.Faults.{unless}
 use Rattle.store.specs.Units.{Smallest, smallest, units}
 use Rattle.store.specs.Bank.{Bank, nothing, items_of, class_of, fresh, roomy, obtainable, cleared, written, grown, pushed, changed, shortened, removed_at, swapped_out, swap_removed_at}
-use Rattle.store.proofs.Models.{push_known, push_grows, none_block, known_list, known_at, write_known, write_block, copy_known, copy_write}
+use Rattle.store.proofs.Models.{had_class, push_known, push_grows, none_block, known_list, known_at, write_known, write_block, copy_known, copy_write}
 use Rattle.store.proofs.Acts.{pushed_within, pushed_grown, shortened_none, shortened_some, swapped_length, smallest_holds, smallest_least}
 use Rattle.store.proofs.Outcomes.{cleared_other, written_other, pushed_other, changed_other, removed_other, swap_removed_other}
-use Rattle.store.proofs.Sums.{Lawful, lawful_holding, lawful_cleared, lawful_anew, lawful_grown, lawful_fresh, had_class, good_smallest}
+use Rattle.store.proofs.Sums.{Lawful, lawful_holding, lawful_cleared, lawful_anew, lawful_grown, lawful_fresh, good_smallest}
 use Rattle.store.proofs.Views.{units_at, none_units}
 use Rattle.pool.specs.Calls.{Call, push, change, remove, swap_remove, clear, write, copy, fault, done, does, run}
 use Rattle.pool.specs.Laws.{target, Spared, Tidy}

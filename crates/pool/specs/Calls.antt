@@ -1,8 +1,9 @@
 -- The calls that change a pool, and runs of them.
 use Rattle.std.specs.Prelude.{◌≡◌, ℕ, List, [], ◌∷◌, length, Ok, Err, Option, Result}
 use Rattle.store.specs.declared.parts.PoolFault.{PoolFault}
-use Rattle.store.specs.Faults.{unless}
-use Rattle.store.specs.Bank.{Bank, pushed, changed, removed_at, swap_removed_at, cleared, written, copied, fault_list, fault_at, fault_push, fault_write, fault_copy}
+use Rattle.store.specs.declared.store.Store.{Store}
+use Rattle.store.specs.Faults.{judged, unless}
+use Rattle.store.specs.Bank.{Bank, bank, pushed, changed, removed_at, swap_removed_at, cleared, written, copied, fault_list, fault_at, fault_push, fault_write, fault_copy}
 
 pub data Call (T : Type 0) : Type 0 where
   push : ℕ → T → Call T
@@ -37,10 +38,16 @@ done b (copy l m) = copied b l m
 abbrev pub does : {T : Type 0} → Bank T → Call T → Bank T
 does b c = unless (fault b c) b (done b c)
 
--- and leaves every field and all lent memory as it was
+-- and leaves what there was
 abbrev pub Kept : {A : Type 0} → Result (Unit {0}) PoolFault → A → A → Type 0
 Kept (Ok x) was is = Unit {0}
 Kept (Err f) was is = is ≡ was
+
+-- a call's answer, what it does, and that a refused one leaves every field and all lent memory as it was
+pub record Answered {T : Type 0} (c : Call T) (r : Result (Unit {0}) PoolFault) (was is : Store T) : Type 0 where
+  pub says : r ≡ judged (fault (bank was) c)
+  pub leaves : bank is ≡ does (bank was) c
+  pub kept : Kept r was is
 
 abbrev pub run : {T : Type 0} → Bank T → List (Call T) → Bank T
 run b [] = b

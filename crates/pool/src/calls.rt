@@ -1,21 +1,23 @@
+// Each call judges, then acts; judge and act are its own, so the calls are alike in form only.
 ghost use Rattle.std.specs.Prelude.{◌≡◌, ℕ, ◌+◌, ◌-◌, ◌*◌, ◌^◌, ◌<◌, ◌≤◌, min, length, Some, None, Ok, Err, slice_index_or};
 ghost use Rattle.store.specs.Bank.{bank, class_of, fault_at, fault_for, fault_list, fresh, items_of, listed_units, usable, view};
 ghost use Rattle.store.specs.Units.{OneOwner, freed_units, units};
 ghost use Rattle.store.specs.Faults.{judged};
-ghost use Rattle.pool.specs.Calls.{Kept, does, fault};
+ghost use Rattle.pool.specs.Calls.{Answered};
 ghost use Rattle.pool.specs.Calls.Call.{push, change, remove, swap_remove, clear as empty, write as anew, copy as again};
 
 use crate::pool::Pool;
-use store::parts::{Head, PoolFault};
+use store::parts::{ListMemory, PoolFault};
 use store::store::Store;
 
 impl<'a, T: Copy> Pool<'a, T> {
     // Lists in lent memory, as many as there are heads and numbers; all are empty.
-    pub fn new(cells: &'a mut [T], links: &'a mut [u32], heads: &'a mut [Head]) -> Self
-        ensures { bank result.store ≡ fresh (min (length heads.old) (2 ^ 32)) (usable (length cells.old) (length links.old)) }
+    pub fn new(memory: ListMemory<'a, T>) -> Self
+        ensures { bank result.store ≡ fresh (min (length memory.entry.heads.now) (2 ^ 32)) (usable (length memory.entry.cells.now) (length memory.entry.chains.now)) }
     {
-        let store = Store::new(cells, links, heads);
-        Pool { store }
+        Pool {
+            store: Store::new(memory),
+        }
     }
 
     // How many lists there are.
@@ -58,9 +60,7 @@ impl<'a, T: Copy> Pool<'a, T> {
 
     // Puts an item at the end of a list.
     pub fn push(&mut self, l: u32, x: T) -> Result<(), PoolFault>
-        ensures says { result ≡ judged (fault (bank self.old.store) (push l x)) }
-        ensures does { bank self.new.store ≡ does (bank self.old.store) (push l x) }
-        ensures kept { Kept result self.old.store self.new.store }
+        ensures { Answered (push l x) result self.old.store self.new.store }
     {
         self.store.room(l)?;
         self.store.append(l, x);
@@ -69,9 +69,7 @@ impl<'a, T: Copy> Pool<'a, T> {
 
     // Writes the item at a place of a list.
     pub fn set(&mut self, l: u32, i: u32, x: T) -> Result<(), PoolFault>
-        ensures says { result ≡ judged (fault (bank self.old.store) (change l i x)) }
-        ensures does { bank self.new.store ≡ does (bank self.old.store) (change l i x) }
-        ensures kept { Kept result self.old.store self.new.store }
+        ensures { Answered (change l i x) result self.old.store self.new.store }
     {
         self.store.find_place(l, i)?;
         self.store.set_item(l, i, x);
@@ -80,9 +78,7 @@ impl<'a, T: Copy> Pool<'a, T> {
 
     // Takes the item at a place out of a list and closes the gap.
     pub fn remove(&mut self, l: u32, i: u32) -> Result<(), PoolFault>
-        ensures says { result ≡ judged (fault (bank self.old.store) (remove l i)) }
-        ensures does { bank self.new.store ≡ does (bank self.old.store) (remove l i) }
-        ensures kept { Kept result self.old.store self.new.store }
+        ensures { Answered (remove l i) result self.old.store self.new.store }
     {
         self.store.find_place(l, i)?;
         self.store.remove_item(l, i);
@@ -91,9 +87,7 @@ impl<'a, T: Copy> Pool<'a, T> {
 
     // Takes the item at a place out of a list and moves the last one into the gap.
     pub fn swap_remove(&mut self, l: u32, i: u32) -> Result<(), PoolFault>
-        ensures says { result ≡ judged (fault (bank self.old.store) (swap_remove l i)) }
-        ensures does { bank self.new.store ≡ does (bank self.old.store) (swap_remove l i) }
-        ensures kept { Kept result self.old.store self.new.store }
+        ensures { Answered (swap_remove l i) result self.old.store self.new.store }
     {
         self.store.find_place(l, i)?;
         self.store.swap_remove_item(l, i);
@@ -102,9 +96,7 @@ impl<'a, T: Copy> Pool<'a, T> {
 
     // Empties a list.
     pub fn clear(&mut self, l: u32) -> Result<(), PoolFault>
-        ensures says { result ≡ judged (fault (bank self.old.store) (empty l)) }
-        ensures does { bank self.new.store ≡ does (bank self.old.store) (empty l) }
-        ensures kept { Kept result self.old.store self.new.store }
+        ensures { Answered (empty l) result self.old.store self.new.store }
     {
         self.store.find(l)?;
         self.store.clear(l);
@@ -113,9 +105,7 @@ impl<'a, T: Copy> Pool<'a, T> {
 
     // Writes a list anew.
     pub fn write(&mut self, l: u32, xs: &[T]) -> Result<(), PoolFault>
-        ensures says { result ≡ judged (fault (bank self.old.store) (anew l xs.now)) }
-        ensures does { bank self.new.store ≡ does (bank self.old.store) (anew l xs.now) }
-        ensures kept { Kept result self.old.store self.new.store }
+        ensures { Answered (anew l xs.now) result self.old.store self.new.store }
     {
         self.store.room_anew(l, xs.len())?;
         self.store.write(l, xs);
@@ -124,9 +114,7 @@ impl<'a, T: Copy> Pool<'a, T> {
 
     // Writes a list anew with the items of another, or of itself.
     pub fn copy(&mut self, from: u32, to: u32) -> Result<(), PoolFault>
-        ensures says { result ≡ judged (fault (bank self.old.store) (again from to)) }
-        ensures does { bank self.new.store ≡ does (bank self.old.store) (again from to) }
-        ensures kept { Kept result self.old.store self.new.store }
+        ensures { Answered (again from to) result self.old.store self.new.store }
     {
         self.store.room_copy(from, to)?;
         self.store.copy(from, to);

@@ -1,6 +1,6 @@
 -- The functions that the two renamings are.
-use Rattle.std.specs.Prelude.{◌≡◌, ℕ, cond, ◌≢◌, List, [], ◌∷◌, ◌++◌, Some, None, Option, ◌==◌}
-use Rattle.std.specs.Option.{unwrap_or}
+use Rattle.std.specs.Prelude.{◌≡◌, ℕ, ◌≢◌, List, ◌∷◌, ◌++◌, Option, ◌==◌, All, find}
+use Rattle.std.specs.Option.{option_map_or, unwrap_or}
 use Rattle.ir.specs.declared.entities.Value.{Value}
 use Rattle.ir.specs.declared.value_data.ValueData.{ValueData}
 use Rattle.values.specs.Leads.{Leads, LeadsNowhere, leads_to}
@@ -8,16 +8,11 @@ use Rattle.renaming.specs.declared.pairs.Pair.{Pair}
 
 -- the first pair for v
 abbrev pub first_for : List Pair → Value → Option Pair
-first_for [] v = None
-first_for (p ∷ ps) v = cond (p.from.0 == v.0) (Some p) (first_for ps v)
-
-abbrev pub new_name : Option Pair → Value → Value
-new_name None v = v
-new_name (Some p) v = p.to
+first_for ps v = find (λ p. p.from.0 == v.0) ps
 
 -- by the first pair that fits; other values stay
 abbrev pub first_fit : List Pair → Value → Value
-first_fit ps v = new_name (first_for ps v) v
+first_fit ps v = option_map_or (λ p. p.to) (first_for ps v) v
 
 -- what a value leads to, or the value where it leads nowhere
 abbrev pub end_of : List ValueData → Value → Value
@@ -25,8 +20,7 @@ end_of vs v = unwrap_or (leads_to vs v) v
 
 -- no pair of the list is for v
 abbrev pub NoFit : List Pair → Value → Type 0
-NoFit [] v = Unit {0}
-NoFit (p ∷ ps) v = (p.from ≢ v) × NoFit ps v
+NoFit ps v = All (λ p. p.from ≢ v) ps
 
 -- whatever stands behind the first pair for v does not matter
 abbrev pub FirstFits : Type 0

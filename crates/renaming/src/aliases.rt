@@ -18,9 +18,6 @@ impl<'a> Renaming for AliasResolver<'a> {
     ghost renamed = { λ s v. end_of (definitions s.defs.now) v };
 
     fn rename(&self, v: Value) -> Value {
-        match resolve(self.defs, v) {
-            Some(end) => end,
-            None => v,
-        }
+        resolve(self.defs, v).unwrap_or(v)
     }
 }

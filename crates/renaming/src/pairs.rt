@@ -21,21 +21,13 @@ pub struct Pairs<'a> {
 fn first_pair(pairs: &[Pair], v: Value) -> Option<Pair>
     ensures { result ≡ first_for pairs.now v }
 {
-    for pair in pairs {
-        if pair.from == v {
-            return Some(*pair);
-        }
-    }
-    None
+    pairs.iter().copied().find(|pair| pair.from == v)
 }
 
 impl<'a> Renaming for Pairs<'a> {
     ghost renamed = { λ s v. first_fit s.pairs.now v };
 
     fn rename(&self, v: Value) -> Value {
-        match first_pair(self.pairs, v) {
-            Some(pair) => pair.to,
-            None => v,
-        }
+        first_pair(self.pairs, v).map_or(v, |pair| pair.to)
     }
 }

@@ -1,4 +1,3 @@
-pub mod Judged
 pub mod Each
 pub mod Seating
 pub mod Made

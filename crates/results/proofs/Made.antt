@@ -1,5 +1,5 @@
 -- What judged results come to.
-use Rattle.std.proofs.Common.{◌≡◌, ℕ, zero, suc, ◌+◌, ◌-◌, ◌*◌, ◌<◌, ◌≤◌, Bool, true, false, cond, ltb, leb, List, [], ◌∷◌, length, get_or, take, Some, None, Ok, Err, Option, sym, refl, ap, ◌∙◌, subst, inl, inr, arith}
+use Rattle.std.proofs.Common.{◌≡◌, ℕ, zero, suc, ◌+◌, ◌-◌, ◌*◌, ◌<◌, ◌≤◌, ltb, leb, List, [], ◌∷◌, length, get_or, take, Some, None, Ok, Err, Option, sym, refl, ap, ◌∙◌, subst, inl, inr, arith}
 use Rattle.std.proofs.lemmas.List.{get_or-take}
 use Rattle.std.proofs.lemmas.Bool.{cases_lt, leb-false, ltb-false}
 use Rattle.ir.specs.declared.entities.Value.{Value}
@@ -7,30 +7,22 @@ use Rattle.ir.specs.declared.entities.Inst.{Inst as InstId}
 use Rattle.ir.specs.declared.entities.Type.{«Type» as Ty}
 use Rattle.ir.specs.declared.value_data.ValueData.{ValueData}
 use Rattle.ir.specs.declared.fault.PackFault.TheVariants.{Wide}
-use Rattle.store.specs.declared.parts.PoolFault.{PoolFault}
 use Rattle.store.specs.Units.{smallest, units}
 use Rattle.store.specs.Bank.{Bank, Owned, class_of, cleared, fault_write, holding, obtained, written}
 use Rattle.store.proofs.Models.{none_block, offer_past, write_block, write_known}
 use Rattle.store.proofs.Acts.{smallest_holds}
 use Rattle.model.specs.declared.fault.GraphFault.{GraphFault}
 use Rattle.model.specs.declared.fault.GraphFault.TheVariants.{Full, Long, Packing, Unknown}
-use Rattle.model.specs.Refusals.{Row, by_pool, first, first_among, outcome, settle, unless}
+use Rattle.model.specs.Refusals.{Row, first, first_among, outcome, settle, unless}
 use Rattle.model.specs.State.{Graph, result_list}
 use Rattle.model.specs.Edits.{make_inst_results_rows, reused, seated, seats, with_defs, with_results, with_words}
-use Rattle.model.proofs.Banks.{OnlyList, cleared_only, holding_only, obtained_lists, only_from, only_then}
-use Rattle.model.proofs.Rows.{first_of_none, passes, when_none}
+use Rattle.model.proofs.Banks.{OnlyList, anew_only, cleared_only, obtained_lists}
+use Rattle.model.proofs.Rows.{cond_none, first_of_none, passes, pool_none, when_none}
 use Rattle.defs.specs.Graphs.{judged}
 use Rattle.results.specs.Seats.{Known, Seatable, news, seated_in}
-use Rattle.results.proofs.Each.{judged_ok, judged_err}
+use Rattle.judges.proofs.Asks.{judged_none}
+use Rattle.results.proofs.Each.{judged_err}
 use Rattle.results.proofs.Seating.{again, held}
-
-pool_none : (o : Option PoolFault) → by_pool o ≡ None → o ≡ None
-pool_none None e = refl
-pool_none (Some f) e = let z : ◌≡◌ {A = ℕ} 0 1 = cc in absurd (omega arith)
-
-cond_none : (b : Bool) (f : GraphFault) (r : Row) → cond b (Some f) r ≡ None → (b ≡ false) × (r ≡ None)
-cond_none true f r e = let z : ◌≡◌ {A = ℕ} 0 1 = cc in absurd (omega arith)
-cond_none false f r e = (refl, e)
 
 -- no value to reuse is unknown
 known_each : (ds : List ValueData) (us : List (Option Value)) → first_among (λ v. leb (length ds) v.0) (λ v. Unknown v.0) (reused us) ≡ None →
@@ -75,9 +67,7 @@ module _ (w : Bank Value) (l n : ℕ) (ok : fault_write w l n ≡ None) where
       omega arith
 
   only : OnlyList w reserved l []
-  only =
-      only_then (cleared_only w l)
-      (only_from (sym (obtained_lists (cleared w l) (smallest n))) (holding_only (obtained (cleared w l) (smallest n)) l [] (smallest n)))
+  only = anew_only w l [] (smallest n)
 
   of_class : class_of reserved l ≡ smallest n
   of_class = ap (λ (o : Owned Value). o.class) (held (obtained (cleared w l) (smallest n)) l (smallest n) [] still)
@@ -87,7 +77,7 @@ module _ (w : Bank Value) (l n : ℕ) (ok : fault_write w l n ≡ None) where
     | inl h ↦
         let a = offer_past (cleared w l) (smallest n) h in
         let b = none_block (cleared w l) n (sym (write_block w l n in_list) ∙ ok) in
-        let z : ◌≡◌ {A = ℕ} 0 1 = cc in absurd (omega arith)
+        absurd cc
     | inr h ↦ h
   ]
 
@@ -105,18 +95,18 @@ module _ (g : Graph) (i : InstId) (ts : List Ty) (us : List (Option Value)) (e :
   abbrev list : ℕ
   list = result_list g i
 
-  judged_none : first (make_inst_results_rows g i ts us) ≡ None
-  judged_none = judged_ok (first (make_inst_results_rows g i ts us)) e
+  no_row : first (make_inst_results_rows g i ts us) ≡ None
+  no_row = judged_none (first (make_inst_results_rows g i ts us)) e
 
   pub block_had : fault_write g.words (result_list g i) (length ts) ≡ None
   block_had =
-      let q = passes (make_inst_results_rows g i ts us) judged_none in
+      let q = passes (make_inst_results_rows g i ts us) no_row in
       pool_none (fault_write g.words (result_list g i) (length ts)) q.1.1.1.1.1.1.1.1.0
 
   -- nothing stands in the way
   pub seatable : Seatable (with_words g (reserved g.words (result_list g i) (length ts) block_had)) (result_list g i) ts us
   seatable =
-      let q = passes (make_inst_results_rows g i ts us) judged_none in
+      let q = passes (make_inst_results_rows g i ts us) no_row in
       let n = length (reused (take (length ts) us)) in
       let o = only g.words list (length ts) block_had in
       let h = in_list g.words list (length ts) block_had in
@@ -141,7 +131,7 @@ module _ (g : Graph) (i : InstId) (ts : List Ty) (us : List (Option Value)) (e :
       (filled g.words list (length ts) block_had (seats (length g.defs) ts us) (seats_length (length g.defs) ts us))
 
   pub answered : (x : Graph) → x ≡ with_results g i ts us → outcome (Ok (length ts)) x ≡ settle (make_inst_results_rows g i ts us) (length ts) (with_results g i ts us)
-  answered x p = ap (outcome (Ok (length ts))) p ∙ ap (λ (r : Row). unless r (length ts) (with_results g i ts us)) (sym judged_none)
+  answered x p = ap (outcome (Ok (length ts))) p ∙ ap (λ (r : Row). unless r (length ts) (with_results g i ts us)) (sym no_row)
 
 -- a refusal
 pub refused_by : {A : Type 0} (rows : List Row) (f : GraphFault) (a : A) (x y : Graph) → Err f ≡ judged (first rows) → outcome {A = A} (Err f) x ≡ settle rows a y

@@ -1,6 +1,6 @@
 -- Results put in their places one after another.
 use Rattle.std.proofs.Common.{◌≡◌, ℕ, ◌+◌, ◌*◌, ◌<◌, ◌≤◌, true, ltb, List, [], ◌∷◌, ◌++◌, length, get_or, drop, Some, None, Option, sym, refl, ap, ◌∙◌, subst, arith}
-use Rattle.std.proofs.lemmas.List.{append_assoc, append-nil, drop_all, drop-drop, drop_more, get_or-drop, get_or-set_same, length_push, length-set, set-set}
+use Rattle.std.proofs.lemmas.List.{append_assoc, drop-drop, drop_more, get_or-drop, get_or-set_same, length_push, length-set, set-set}
 use Rattle.std.proofs.lemmas.Bool.{le-ltb, lt-ltb}
 use Rattle.ir.specs.declared.entities.Value.{Value}
 use Rattle.ir.specs.declared.entities.Inst.{Inst as InstId}
@@ -13,7 +13,7 @@ use Rattle.store.proofs.Models.{push_roomy, same_bank}
 use Rattle.store.proofs.Acts.{held_same, pushed_within}
 use Rattle.model.specs.State.{Graph}
 use Rattle.model.specs.Edits.{defined, seated, seats, with_defs, with_words}
-use Rattle.results.specs.Seats.{Known, Open, Seatable, news, seat_of, seated_in}
+use Rattle.results.specs.Seats.{Known, Open, Seatable, news, seat_of}
 
 -- a list whose block has room takes one more
 module _ (b : Bank Value) (l c : ℕ) (xs : List Value) (h : l < length b.lists) where
@@ -172,13 +172,3 @@ module _ (g : Graph) (i : InstId) (l : ℕ) (ts : List Ty) (us : List (Option Va
 
   pub more_seated : (x : Graph) → x ≡ with_words (with_defs h defs) (pushed h.words l seat) → Seating g i l ts us (k + 1) x
   more_seated x e = subst (λ (y : Graph). Seating g i l ts us (k + 1) y) (sym e) next
-
--- all places are filled
-pub all_seated : (g : Graph) (i : InstId) (l : ℕ) (ts : List Ty) (us : List (Option Value)) (k : ℕ) (h : Graph) → length ts ≤ k → Seating g i l ts us k h → h ≡ seated_in g i l ts us
-all_seated g i l ts us k h le w =
-    let none = drop_all k ts le in
-    let items : w.items ≡ seats (length g.defs) ts us =
-    sym (append-nil w.items) ∙ (ap (λ (xs : List Ty). w.items ++ seats (length h.defs) xs (drop k us)) (sym none) ∙ w.values) in
-    let defs : h.defs ≡ seated i 0 ts (seats (length g.defs) ts us) g.defs =
-    ap (λ (xs : List Ty). seated i k xs (seats (length h.defs) (drop k ts) (drop k us)) h.defs) (sym none) ∙ w.placed in
-    w.rest ∙ (λ j. with_words (with_defs g (defs j)) (holding g.words l (items j) (class_of g.words l)))

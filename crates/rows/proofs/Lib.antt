@@ -1,3 +1,2 @@
-pub mod Words
 pub mod Means
-pub mod Parts
+pub mod Words

@@ -2,16 +2,14 @@
 use Rattle.std.proofs.Common.{◌≡◌, ℕ, zero, suc, ◌+◌, ◌-◌, ◌*◌, ◌<◌, ◌≤◌, true, false, ltb, ◌≢◌, List, [], ◌∷◌, ◌++◌, length, get_or, take, drop, set, sym, refl, ap, ◌∙◌, inl, inr, add-one, arith}
 use Rattle.std.proofs.lemmas.List.{length-set, length-append, get_or-set_same, get_or-set_other, set-set, set_comm, set-get_or, set_split, length-take, length-drop, drop_more, drop_all, nil_from_length, append_assoc}
 use Rattle.std.proofs.lemmas.Bool.{lt-ltb, le-ltb, le-leb, lt-leb, cases_lt, cases_eq}
+use Rattle.store.specs.declared.blocks.Blocks.{Blocks}
 use Rattle.store.specs.declared.store.Store.{Store}
 use Rattle.store.specs.Units.{units, smallest, first_class}
-use Rattle.store.specs.Bank.{Bank, Owned, Sound, Ready, bank, nothing, items_of, class_of, obtained, taken, spared, cleared, holding, written, grown, pushed, roomy, shortened, swapped_out}
+use Rattle.store.specs.Bank.{Bank, Owned, bank, nothing, items_of, class_of, obtained, taken, spared, cleared, holding, written, grown, pushed, roomy, shortened, swapped_out}
 use Rattle.store.specs.Held.{held, shown, exchange, filling, grasping, settled}
 use Rattle.store.proofs.Views.{none_units}
 use Rattle.store.proofs.Stores.{hand_class, nothing_in_hand}
 use Rattle.store.proofs.Models.{same_bank, spared_other}
-
-pub still_in : {A : Type 0} (xs : List A) (l m : ℕ) (x : A) → m < length xs → m < length (set xs l x)
-still_in xs l m x h = simp length-set h
 
 pub obtained_lists : {T : Type 0} (b : Bank T) (c : ℕ) → (obtained b c).lists ≡ b.lists
 unfolding obtained taken
@@ -23,39 +21,39 @@ obtained_lists b (suc k) =
     ]
 
 -- list l changed in the block that it has: in hand, and back
-pub relisted : {T : Type 0} (s t : Store T) (l : ℕ) (xs : List T) → l < length (bank s).lists → Ready s → Sound t
-    → held t ≡ exchange (filling (exchange (held s) l) xs) l → Ready t × (bank t ≡ holding (bank s) l xs (class_of (bank s) l))
+module _ {T : Type 0} (s : Store T) (t : Blocks T) (l : ℕ) (xs : List T) (h : l < length (bank s).lists) (e : held t ≡ exchange (filling (exchange (held s.blocks) l) xs) l) where
+  -- the hand is empty again
+  pub relisted_idle : t.hand.class ≡ 0
+  unfolding bank held
+  relisted_idle =
+      sym (hand_class t)
+      ∙ (ap (λ x. x.hand.class) e
+      ∙ (ap (λ o. o.class) (get_or-set_same (held s.blocks).lists l (held s.blocks).hand nothing h) ∙ (hand_class s.blocks ∙ s.idle)))
+
+pub relisted : {T : Type 0} (s : Store T) (t : Blocks T) (l : ℕ) (xs : List T) → held t ≡ exchange (filling (exchange (held s.blocks) l) xs) l
+    → shown (held t) ≡ holding (bank s) l xs (class_of (bank s) l)
 unfolding bank held holding
-relisted s t l xs h ready ok e =
-    let k = sym (hand_class t ok)
-    ∙ (ap (λ x. x.hand.class) e
-    ∙ (ap (λ o. o.class) (get_or-set_same (held s).lists l (held s).hand nothing h) ∙ (hand_class s ready.sound ∙ ready.empty))) in (
-      record { sound = ok; empty = k },
-      ap shown e ∙ same_bank (set-set (held s).lists l (held s).hand (record { items = xs; class = (get_or (held s).lists l nothing).class })) refl refl,
-    )
+relisted s t l xs e =
+    ap shown e
+    ∙ same_bank (set-set (held s.blocks).lists l (held s.blocks).hand (record { items = xs; class = (get_or (held s.blocks).lists l nothing).class })) refl refl
 
 -- list l in a new block, and its old one freed
-pub moved : {T : Type 0} (s t : Store T) (l c : ℕ) (xs : List T) → Sound t → t.hand.class ≡ 0
-    → held t ≡ settled (filling (grasping (held s) c) xs) l → Ready t × (bank t ≡ holding (cleared (obtained (bank s) c) l) l xs c)
+pub moved : {T : Type 0} (s : Store T) (t : Blocks T) (l c : ℕ) (xs : List T) → held t ≡ settled (filling (grasping (held s.blocks) c) xs) l
+    → shown (held t) ≡ holding (cleared (obtained (bank s) c) l) l xs c
 unfolding bank held holding cleared
-moved s t l c xs ok z e =
-    let b = shown (held s) in
-    let ls = obtained_lists (shown (held s)) c in
-    let new : Owned _ = record { items = xs; class = c } in (
-      record { sound = ok; empty = z },
-      ap shown e ∙ same_bank
-          (ap (λ ys. set ys l new) (sym ls) ∙ sym (set-set (obtained (shown (held s)) c).lists l nothing new))
-          (ap (λ ys. spared (obtained (shown (held s)) c).free (get_or ys l nothing).class) (sym ls))
-          refl,
-    )
+moved s t l c xs e =
+    let b = shown (held s.blocks) in
+    let ls = obtained_lists (shown (held s.blocks)) c in
+    let new : Owned _ = record { items = xs; class = c } in
+    ap shown e ∙ same_bank
+    (ap (λ ys. set ys l new) (sym ls) ∙ sym (set-set (obtained (shown (held s.blocks)) c).lists l nothing new))
+    (ap (λ ys. spared (obtained (shown (held s.blocks)) c).free (get_or ys l nothing).class) (sym ls))
+    refl
 
 -- list l emptied
-pub emptied : {T : Type 0} (s t : Store T) (l : ℕ) → Ready s → Sound t → t.hand.class ≡ 0 → held t ≡ settled (held s) l → Ready t × (bank t ≡ cleared (bank s) l)
+pub emptied : {T : Type 0} (s t : Store T) (l : ℕ) → held t.blocks ≡ settled (held s.blocks) l → bank t ≡ cleared (bank s) l
 unfolding bank held cleared
-emptied s t l ready ok z e = (
-  record { sound = ok; empty = z },
-  ap shown e ∙ same_bank (ap (set (held s).lists l) (nothing_in_hand s ready.sound ready.empty)) refl refl,
-)
+emptied s t l e = ap shown e ∙ same_bank (ap (set (held s.blocks).lists l) (nothing_in_hand s.blocks s.idle)) refl refl
 
 -- the smallest class that holds n
 holds_from : (f c n : ℕ) → first_class f c n < c + f → n ≤ 4 * units (first_class f c n)
@@ -122,7 +120,7 @@ other_obtained b l (suc k) ne =
           rw (f, e)
     ]
 
-pub own_obtained : {T : Type 0} (b : Bank T) (l : ℕ) (xs : List T) → length b.free ≡ 29 → class_of b l ≤ 29 → (c : ℕ) → c ≡ class_of b l
+own_obtained : {T : Type 0} (b : Bank T) (l : ℕ) (xs : List T) → length b.free ≡ 29 → class_of b l ≤ 29 → (c : ℕ) → c ≡ class_of b l
     → holding (obtained (cleared b l) c) l xs c ≡ holding b l xs c
 unfolding obtained taken cleared holding spared
 own_obtained b l xs n f zero e =
@@ -138,24 +136,23 @@ own_obtained b l xs n f (suc k) e =
     ((λ i. set (p i) k (q i - 1)) ∙ (set-set b.free k (get_or b.free k 0 + 1) (get_or b.free k 0 + 1 - 1) ∙ (ap (set b.free k) z ∙ set-get_or b.free k 0)))
     refl)
 
--- a list written anew, by cases
-module _ {T : Type 0} (b : Bank T) (l : ℕ) (xs : List T) where
-  pub written_none : smallest (length xs) ≡ 0 → written b l xs ≡ cleared b l
-  unfolding written holding cleared obtained
-  written_none e =
-      let z = nil_from_length xs (smallest_none (length xs) e) in
-      let new : Owned T = record { items = xs; class = smallest (length xs) } in
-      let p : new ≡ nothing = (λ i. record { items = z i; class = e i }) in
-      ap (λ c. holding (obtained (cleared b l) c) l xs (smallest (length xs))) e
-      ∙ same_bank (set-set b.lists l nothing new ∙ ap (set b.lists l) p) refl refl
+-- a list written anew, in a block of class c
+module _ {T : Type 0} (b : Bank T) (l : ℕ) (xs : List T) (c : ℕ) where
+  pub anew_none : c ≡ 0 → length xs ≡ 0 → holding (obtained (cleared b l) c) l xs c ≡ cleared b l
+  unfolding holding cleared obtained
+  anew_none e n =
+      let z = nil_from_length xs n in
+      (λ i. holding (obtained (cleared b l) (e i)) l (z i) (e i)) ∙ same_bank (set-set b.lists l nothing nothing) refl refl
 
-  pub written_own : length b.free ≡ 29 → class_of b l ≤ 29 → smallest (length xs) ≡ class_of b l → written b l xs ≡ holding b l xs (class_of b l)
-  unfolding written
-  written_own n f e = own_obtained b l xs n f (smallest (length xs)) e ∙ ap (holding b l xs) e
+  pub anew_own : length b.free ≡ 29 → class_of b l ≤ 29 → c ≡ class_of b l → holding (obtained (cleared b l) c) l xs c ≡ holding b l xs (class_of b l)
+  anew_own n f e = own_obtained b l xs n f c e ∙ ap (holding b l xs) e
 
-  pub written_move : smallest (length xs) ≢ class_of b l → written b l xs ≡ holding (cleared (obtained b (smallest (length xs))) l) l xs (smallest (length xs))
+  pub anew_move : c ≢ class_of b l → holding (obtained (cleared b l) c) l xs c ≡ holding (cleared (obtained b c) l) l xs c
+  anew_move ne = ap (λ d. holding d l xs c) (other_obtained b l c ne)
+
+  pub written_as : c ≡ smallest (length xs) → holding (obtained (cleared b l) c) l xs c ≡ written b l xs
   unfolding written
-  written_move ne = ap (λ d. holding d l xs (smallest (length xs))) (other_obtained b l (smallest (length xs)) ne)
+  written_as e = ap (λ k. holding (obtained (cleared b l) k) l xs k) e
 
 -- a list that holds what it did
 pub held_same : {T : Type 0} (b : Bank T) (l : ℕ) → holding b l (items_of b l) (class_of b l) ≡ b
@@ -182,6 +179,10 @@ module _ {T : Type 0} (b : Bank T) (l : ℕ) where
   unfolding pushed
   pushed_grown x e = rw e
 
+  pub grown_as : (c : ℕ) (xs : List T) → c ≡ smallest (length xs) → holding (cleared (obtained b c) l) l xs c ≡ grown b l xs
+  unfolding grown
+  grown_as c xs e = ap (λ k. holding (cleared (obtained b k) l) l xs k) e
+
 -- the last item put in the place of the one at i
 module _ {T : Type 0} (xs : List T) (i : ℕ) (x : T) (h : i < length xs) (e : x ≡ get_or xs (length xs - 1) x) where
   pub swapped_set : take (length (set xs i x) - 1) (set xs i x) ≡ swapped_out xs i
@@ -207,9 +208,3 @@ smallest_some n h =
       | inl p ↦ p
       | inr z ↦ let e : smallest n ≡ 0 = omega arith in let q = smallest_none n e in absurd (omega arith)
     ]
-
--- a list written anew with no item, where that takes no block
-pub reserved_none : {T : Type 0} (b : Bank T) (l c : ℕ) → c ≡ 0 → holding (obtained (cleared b l) c) l [] c ≡ cleared b l
-unfolding holding obtained cleared
-reserved_none b l c e =
-    ap (λ d. holding (obtained (cleared b l) d) l [] d) e ∙ same_bank (set-set b.lists l nothing nothing) refl refl

@@ -1,10 +1,10 @@
 -- What the model's steps come to.
-use Rattle.std.proofs.Common.{◌≡◌, ℕ, zero, suc, ◌+◌, ◌-◌, ◌*◌, ◌^◌, ◌<◌, ◌≤◌, min, Bool, true, false, cond, ◌&&◌, ◌||◌, ltb, leb, ◌≢◌, List, [], ◌∷◌, length, get_or, set, Some, None, Ok, Err, Option, sym, refl, ap, ◌∙◌, subst, inl, inr, add-one, arith}
+use Rattle.std.proofs.Common.{◌≡◌, ℕ, zero, suc, ◌+◌, ◌-◌, ◌*◌, ◌^◌, ◌<◌, ◌≤◌, Bool, true, false, cond, ◌&&◌, ◌||◌, ltb, leb, ◌≢◌, List, [], ◌∷◌, length, get_or, set, Some, None, Ok, Option, sym, refl, ap, ◌∙◌, subst, inl, inr, add-one, arith}
 use Rattle.std.proofs.lemmas.Bool.Decides.{nat_tests}
 use Rattle.std.proofs.lemmas.Bool.{lt-ltb, le-ltb, le-leb, lt-leb, cond-true, cond-false, cases_lt, ltb-true}
 use Rattle.store.specs.Units.{units, smallest, first_class}
 use Rattle.store.specs.declared.parts.PoolFault.{PoolFault}
-use Rattle.store.specs.declared.parts.PoolFault.TheVariants.{Unknown, NoBlock}
+use Rattle.store.specs.declared.parts.PoolFault.TheVariants.{Unknown}
 use Rattle.store.specs.Faults.{before, judged}
 use Rattle.store.specs.Bank.{Bank, items_of, class_of, taken, obtainable, obtained, spared, cleared, roomy, fault_list, fault_block, fault_for, fault_push, fault_write, fault_copy, fault_at, no_block}
 use Rattle.std.proofs.lemmas.List.{get_or-set_same, get_or-set_other}
@@ -62,6 +62,11 @@ had_size b zero h e = absurd (omega arith)
 had_size b (suc k) h e =
     let q : suc k - 1 ≡ k = omega arith in
     rw q (grind (arith, nat_tests), λ z. grind (arith, nat_tests))
+
+-- a block that can be had is of one of the 29 sizes
+pub had_class : {T : Type 0} (b : Bank T) (c : ℕ) → obtainable b c ≡ true → c ≤ 29
+had_class b c e =
+    elim (cases_lt 0 c) [ inl h ↦ let s = (had_size b c h e).0 in omega arith | inr z ↦ omega arith ]
 
 -- what there is to have of decides what can be had
 pub same_offer : {S T : Type 0} (b : Bank S) (d : Bank T) (c : ℕ) → b.free ≡ d.free → b.left ≡ d.left → obtainable b c ≡ obtainable d c
@@ -131,10 +136,6 @@ unfolding obtained
 obtained_none b zero h = refl
 obtained_none b (suc k) h = absurd (omega arith)
 
--- refusals
-pub before_some : (f g : Option PoolFault) (x : PoolFault) → f ≡ Some x → judged (before f g) ≡ Err x
-before_some f g x e = ap (λ z. judged (before z g)) e
-
 pub before_none : (f g : Option PoolFault) → f ≡ None → before f g ≡ g
 before_none f g e = ap (λ z. before z g) e
 
@@ -151,10 +152,6 @@ cond_none true x e = refl
 cond_none false x e = let z : ◌≡◌ {A = ℕ} 0 1 = cc in absurd (omega arith)
 
 module _ {T : Type 0} (b : Bank T) where
-  pub list_unknown : (l : ℕ) → length b.lists ≤ l → fault_list b l ≡ Some (Unknown l)
-  unfolding fault_list
-  list_unknown l h = rw (le-ltb l (length b.lists) h)
-
   pub list_known : (l : ℕ) → l < length b.lists → fault_list b l ≡ None
   unfolding fault_list
   list_known l h = rw (lt-ltb l (length b.lists) h)
@@ -205,18 +202,6 @@ module _ {T : Type 0} (b : Bank T) (l : ℕ) where
   other_block n ne = ap (λ t. cond t None (Some (no_block n))) (other_offer (smallest n) ne)
 
 module _ {T : Type 0} (b : Bank T) (l i : ℕ) where
-  pub at_list : length b.lists ≤ l → judged (fault_at b l i) ≡ Err (Unknown l)
-  unfolding fault_at
-  at_list h = before_some (fault_list b l) _ (Unknown l) (list_unknown b l h)
-
-  pub place_unknown : l < length b.lists → length (items_of b l) ≤ i → fault_at b l i ≡ Some (Unknown i)
-  unfolding fault_at
-  place_unknown h p = before_none (fault_list b l) _ (list_known b l h) ∙ rw (le-ltb i (length (items_of b l)) p)
-
-  pub place_known : l < length b.lists → i < length (items_of b l) → fault_at b l i ≡ None
-  unfolding fault_at
-  place_known h p = before_none (fault_list b l) _ (list_known b l h) ∙ rw (lt-ltb i (length (items_of b l)) p)
-
   pub known_at : fault_at b l i ≡ None → (l < length b.lists) × (i < length (items_of b l))
   unfolding fault_at
   known_at e = (
@@ -225,10 +210,6 @@ module _ {T : Type 0} (b : Bank T) (l i : ℕ) where
   )
 
 module _ {T : Type 0} (b : Bank T) (l : ℕ) where
-  pub push_unknown : length b.lists ≤ l → judged (fault_push b l) ≡ Err (Unknown l)
-  unfolding fault_push
-  push_unknown h = before_some (fault_list b l) _ (Unknown l) (list_unknown b l h)
-
   pub push_roomy : l < length b.lists → roomy b l ≡ true → fault_push b l ≡ None
   unfolding fault_push
   push_roomy h e = before_none (fault_list b l) _ (list_known b l h) ∙ rw e
@@ -241,10 +222,6 @@ module _ {T : Type 0} (b : Bank T) (l : ℕ) where
   unfolding fault_push
   push_known e = known_list b l (before_first (fault_list b l) _ e)
 
-  pub write_unknown : (n : ℕ) → length b.lists ≤ l → judged (fault_write b l n) ≡ Err (Unknown l)
-  unfolding fault_write
-  write_unknown n h = before_some (fault_list b l) _ (Unknown l) (list_unknown b l h)
-
   pub write_block : (n : ℕ) → l < length b.lists → fault_write b l n ≡ fault_block (cleared b l) n
   unfolding fault_write
   write_block n h = before_none (fault_list b l) _ (list_known b l h)
@@ -252,10 +229,6 @@ module _ {T : Type 0} (b : Bank T) (l : ℕ) where
   pub write_known : (n : ℕ) → fault_write b l n ≡ None → l < length b.lists
   unfolding fault_write
   write_known n e = known_list b l (before_first (fault_list b l) _ e)
-
-  pub copy_unknown : (m : ℕ) → length b.lists ≤ l → judged (fault_copy b l m) ≡ Err (Unknown l)
-  unfolding fault_copy
-  copy_unknown m h = before_some (fault_list b l) _ (Unknown l) (list_unknown b l h)
 
   pub copy_write : (m : ℕ) → l < length b.lists → fault_copy b l m ≡ fault_write b m (length (items_of b l))
   unfolding fault_copy
@@ -265,13 +238,22 @@ module _ {T : Type 0} (b : Bank T) (l : ℕ) where
   unfolding fault_copy
   copy_known m e = known_list b l (before_first (fault_list b l) _ e)
 
-pub no_block_within : (n : ℕ) → smallest n ≤ 29 → no_block n ≡ NoBlock (4 * units (smallest n))
-unfolding no_block
-no_block_within n h = rw (le-leb (smallest n) 29 h)
+-- what is known where a list can be written anew, and where it can have another's items
+pub write_fits : {T : Type 0} (b : Bank T) (l n : ℕ) → fault_write b l n ≡ None → (l < length b.lists) × (obtainable (cleared b l) (smallest n) ≡ true)
+write_fits b l n e =
+    let h = write_known b l n e in
+    (h, none_block (cleared b l) n (sym (write_block b l n h) ∙ e))
 
-pub no_block_past : (n : ℕ) → 29 < smallest n → no_block n ≡ NoBlock (min n 4294967295)
-unfolding no_block
-no_block_past n h = rw (lt-leb (smallest n) 29 h)
+pub copy_fits : {T : Type 0} (b : Bank T) (l m : ℕ) → fault_copy b l m ≡ None
+    → (l < length b.lists) × (m < length b.lists) × (obtainable (cleared b m) (smallest (length (items_of b l))) ≡ true)
+copy_fits b l m e =
+    let h = copy_known b l m e in
+    let w = write_fits b m (length (items_of b l)) (sym (copy_write b l m h) ∙ e) in
+    (h, w.0, w.1)
+
+-- and where one can have another item, but has no room for it
+pub push_fits : {T : Type 0} (b : Bank T) (l : ℕ) → fault_push b l ≡ None → roomy b l ≡ false → obtainable b (smallest (length (items_of b l) + 1)) ≡ true
+push_fits b l e r = none_block b (length (items_of b l) + 1) (sym (push_grows b l (push_known b l e) r) ∙ e)
 
 module _ {T : Type 0} (d : Bank T) (n : ℕ) (ns : List ℕ) where
   pub for_more : obtainable d (smallest n) ≡ true → fault_for d (n ∷ ns) ≡ fault_for (obtained d (smallest n)) ns
@@ -293,6 +275,3 @@ judged_none (Some x) e = let z : ◌≡◌ {A = ℕ} 0 1 = cc in absurd (omega a
 
 pub found : {T : Type 0} (b : Bank T) (l : ℕ) → judged (fault_list b l) ≡ Ok tt → l < length b.lists
 found b l e = known_list b l (judged_none (fault_list b l) e)
-
-pub found_at : {T : Type 0} (b : Bank T) (l i : ℕ) → judged (fault_at b l i) ≡ Ok tt → (l < length b.lists) × (i < length (items_of b l))
-found_at b l i e = known_at b l i (judged_none (fault_at b l i) e)

@@ -179,11 +179,6 @@ lawful_fresh {T = T} n u =
     let f = zero_freed 0 29 in
     record { total = omega arith; sized = refl; good = λ m. subst Good (sym (rep_at n m nothing)) (good_nothing T) }
 
--- a block that can be had is of one of the 29 sizes
-pub had_class : {T : Type 0} (b : Bank T) (c : ℕ) → obtainable b c ≡ true → c ≤ 29
-had_class b c e =
-    elim (cases_lt 0 c) [ inl h ↦ let s = (had_size b c h e).0 in omega arith | inr z ↦ omega arith ]
-
 -- the smallest block that holds items is no empty one
 pub good_smallest : {T : Type 0} (xs : List T) → smallest (length xs) ≤ 29 → Good (record { items = xs; class = smallest (length xs) })
 good_smallest xs h = (

@@ -1,6 +1,5 @@
 -- How a step renames the owners of units: what keeps them apart.
-use Rattle.std.proofs.Common.{◌≡◌, ℕ, zero, suc, ◌+◌, ◌-◌, ◌*◌, ◌%◌, ◌^◌, ◌<◌, ◌≤◌, cond, eqb, ltb, ◌⊎◌, List, [], ◌∷◌, map, length, get_or, set, replicate, sum_by, sym, refl, ap, ◌∙◌, subst, inl, inr, add-mul, mul-le-mul_left, zero-mul, mul-one, add-one, arith, lit<, pow_pos, pow_mono}
-use lib.Pow.{pow-lt}
+use Rattle.std.proofs.Common.{◌≡◌, ℕ, zero, suc, ◌+◌, ◌-◌, ◌*◌, ◌%◌, ◌^◌, ◌<◌, ◌≤◌, cond, eqb, ltb, ◌⊎◌, List, [], ◌∷◌, map, length, get_or, set, replicate, sum_by, sym, refl, ap, ◌∙◌, subst, inl, inr, add-mul, mul-le-mul_left, zero-mul, mul-one, add-one, arith, pow_pos, pow_mono}
 use Rattle.std.proofs.lemmas.List.{get_or-set_same, get_or-set_other, get_or-replicate, get_or_past, length-replicate, length-map, get_or-map, map-set}
 use Rattle.std.proofs.lemmas.Bool.{cases_eq, cases_lt, cond-true, cond-false, eq-eqb, ne_eqb, lt-ltb, le-ltb}
 use Rattle.std.proofs.lemmas.Nat.{one_shl}
@@ -381,15 +380,6 @@ listed_below v apart l p =
     let b : u < v.used = under v apart (listed l) u (omega arith, omega arith) (listed_is_used l) in
     omega arith
 
--- the next class is larger
-grow_suc : (c : ℕ) → units c < units (suc c)
-unfolding units
-grow_suc zero = lit< tt
-grow_suc (suc k) = let h : k < suc k = omega arith in pow-lt h
-
-pub units_grow : (c : ℕ) → units c < units (c + 1)
-units_grow c = subst (λ n. units c < units n) (sym (add-one c)) (grow_suc c)
-
 pub units_most : (c : ℕ) → c ≤ 29 → units c ≤ 268435456
 unfolding units
 units_most zero h = omega arith
@@ -444,10 +434,10 @@ start_whole n m links =
     omega arith
 
 -- a step's outcome, where a callee says what it is by an equation
-pub is_released : (v : View) (k : ℕ) (n : ℕ) (rs : List SizeRecord) → n ≡ (get_or v.sizes k no_record).first
+pub is_released : (v : View) (k : ℕ) (ls : List ℕ) (rs : List SizeRecord) → ls ≡ set v.links v.hand.start (get_or v.sizes k no_record).first
     → rs ≡ set v.sizes k (record { first = v.hand.start; count = (get_or v.sizes k no_record).count + 1 })
-    → record { hand = no_head; heads = v.heads; links = set v.links v.hand.start n; sizes = rs; used = v.used } ≡ released v k
-is_released v k n rs p q = λ i. record { hand = no_head; heads = v.heads; links = set v.links v.hand.start (p i); sizes = q i; used = v.used }
+    → record { hand = no_head; heads = v.heads; links = ls; sizes = rs; used = v.used } ≡ released v k
+is_released v k ls rs p q = λ i. record { hand = no_head; heads = v.heads; links = p i; sizes = q i; used = v.used }
 
 pub is_reused : (v : View) (k at : ℕ) (rs : List SizeRecord) → at ≡ (get_or v.sizes k no_record).first
     → rs ≡ set v.sizes k (record { first = get_or v.links at 0; count = (get_or v.sizes k no_record).count - 1 })

@@ -1,13 +1,14 @@
 -- What a store holds, as its callers see it, and what each call does to it.
-use Rattle.std.specs.Prelude.{◌≡◌, ℕ, zero, suc, ◌+◌, ◌-◌, ◌*◌, ◌/◌, ◌^◌, min, Bool, true, cond, ◌&&◌, ◌||◌, List, [], ◌∷◌, ◌++◌, map, length, take, drop, replicate, Some, None, sum_by, Option, nat_le, nat_lt, slice_index, slice_index_or, slice_set}
+use Rattle.std.specs.Prelude.{ℕ, zero, suc, ◌+◌, ◌-◌, ◌*◌, ◌/◌, ◌^◌, min, Bool, true, cond, ◌&&◌, ◌||◌, List, [], ◌∷◌, ◌++◌, map, length, take, drop, replicate, Some, None, sum_by, Option, nat_le, nat_lt, slice_index, slice_index_or, slice_set}
 use Rattle.std.specs.List.{remove}
 use Rattle.store.specs.declared.parts.Head.{Head}
 use Rattle.store.specs.declared.parts.PoolFault.{PoolFault}
 use Rattle.store.specs.declared.parts.PoolFault.TheVariants.{Unknown, NoBlock}
 use Rattle.store.specs.declared.sizes.SizeTable.{SizeTable}
+use Rattle.store.specs.declared.blocks.Blocks.{Blocks}
 use Rattle.store.specs.declared.store.Store.{Store}
 use Rattle.store.specs.Faults.{before}
-use Rattle.store.specs.Units.{View, units, smallest, Apart, Filled, Whole, Room}
+use Rattle.store.specs.Units.{View, placed, units, smallest}
 
 -- a list's items and its block's class: 0 is no block, k + 1 a block of 4 * 2^k cells
 pub record Owned (T : Type 0) : Type 0 where
@@ -155,33 +156,17 @@ owned cells h = record { items = take h.len (drop (4 * h.start) cells); class = 
 unfoldable pub bank : {T : Type 0} → Store T → Bank T
 bank s =
     record {
-      lists = map (owned s.cells.now) s.heads.now;
-      free = map (λ r. r.count) s.sizes.records;
-      left = s.limit - s.used;
+      lists = map (owned s.blocks.cells.now) s.blocks.heads.now;
+      free = map (λ r. r.count) s.blocks.sizes.records;
+      left = s.blocks.limit - s.blocks.used;
     }
 
 -- what there is to have of, for any lists
 abbrev pub stock : SizeTable → ℕ → Bank ℕ
 stock t left = record { lists = []; free = map (λ r. r.count) t.records; left = left }
 
+abbrev pub layout : {T : Type 0} → Blocks T → View
+layout s = placed s.hand s.heads.now s.links.now s.sizes.records s.used
+
 abbrev pub view : {T : Type 0} → Store T → View
-view s =
-    record { hand = s.hand; heads = s.heads.now; links = s.links.now; sizes = s.sizes.records; used = s.used }
-
--- what every step keeps
-pub record Sound {T : Type 0} (s : Store T) : Type 0 where
-  pub apart : Apart (view s)
-  pub filled : Filled s.hand s.heads.now
-  pub whole : Whole (view s)
-  pub room : Room (length s.cells.now) (length s.links.now) (length s.sizes.records) s.limit s.used
-
--- what every call keeps: nothing is in hand
-pub record Ready {T : Type 0} (s : Store T) : Type 0 where
-  pub sound : Sound s
-  pub empty : s.hand.class ≡ 0
-
--- the same as a ghost field can hold it
-abbrev pub Settled : {T : Type 0} → Store T → Type 0
-Settled s =
-    Apart (view s) × Filled s.hand s.heads.now × Whole (view s)
-    × Room (length s.cells.now) (length s.links.now) (length s.sizes.records) s.limit s.used × (s.hand.class ≡ 0)
+view s = layout s.blocks

@@ -1,20 +1,13 @@
--- The refusals of a pool, by number, layer and detail.
-use Rattle.std.specs.Prelude.{ℕ, List, Some, None, Ok, Err, codes, Option, Result}
+-- The refusals of a pool.
+use Rattle.std.specs.Prelude.{Some, None, Ok, Err, Option, Result}
+use Rattle.ir.specs.declared.fault.Layer.TheVariants.{Pool}
+use Rattle.ir.specs.Refusals.{Refusal}
 use Rattle.store.specs.declared.parts.PoolFault.{PoolFault}
 use Rattle.store.specs.declared.parts.PoolFault.TheVariants.{Unknown, NoBlock}
 
-abbrev pub number : PoolFault → ℕ
-number (Unknown n) = 1
-number (NoBlock n) = 14
-
-abbrev pub detail : PoolFault → ℕ
-detail (Unknown n) = n
-detail (NoBlock n) = n
-
--- the layer's name, as text
-abbrev pub layer : PoolFault → List ℕ
-layer (Unknown n) = codes "pool"
-layer (NoBlock n) = codes "pool"
+abbrev pub refusal : PoolFault → Refusal
+refusal (Unknown n) = record { number = 1; layer = Pool; detail = n }
+refusal (NoBlock n) = record { number = 14; layer = Pool; detail = n }
 
 -- what a call answers that is refused so, or not at all
 abbrev pub judged : Option PoolFault → Result (Unit {0}) PoolFault

@@ -1,6 +1,6 @@
 -- What a store holds in the midst of a call, when a block may be in hand.
 use Rattle.std.specs.Prelude.{ℕ, ◌-◌, List, [], map, slice_index_or, slice_set}
-use Rattle.store.specs.declared.store.Store.{Store}
+use Rattle.store.specs.declared.blocks.Blocks.{Blocks}
 use Rattle.store.specs.Bank.{Owned, Bank, owned, nothing, obtained, spared}
 
 pub record Held (T : Type 0) : Type 0 where
@@ -9,7 +9,7 @@ pub record Held (T : Type 0) : Type 0 where
   pub free : List ℕ
   pub left : ℕ
 
-unfoldable pub held : {T : Type 0} → Store T → Held T
+unfoldable pub held : {T : Type 0} → Blocks T → Held T
 held s =
     record {
       hand = owned s.cells.now s.hand;

@@ -41,6 +41,9 @@ pub record View : Type 0 where
   pub sizes : List SizeRecord
   pub used : ℕ
 
+abbrev pub placed : Head → List Head → List ℕ → List SizeRecord → ℕ → View
+placed hand heads links sizes used = record { hand = hand; heads = heads; links = links; sizes = sizes; used = used }
+
 -- who may own a unit: the block in hand, the block of a list, the i-th freed block of a size, or nobody yet
 pub data Owner : Type 0 where
   in_hand : Owner

@@ -1,9 +1,6 @@
-// Reads and writes of lent cells.
-ghost use Rattle.std.specs.Prelude.{◌≡◌, ℕ, ◌+◌, ◌-◌, ◌*◌, ◌<◌, ◌≤◌, length, take, drop, replicate, slice_index_or, slice_set};
+// Reads and writes of lent cells, each by the one equation that the steps and calls above stand on.
+ghost use Rattle.std.specs.Prelude.{◌≡◌, ℕ, ◌+◌, ◌-◌, ◌*◌, ◌<◌, ◌≤◌, length, take, drop, slice_index_or, slice_set};
 ghost use Rattle.std.proofs.Math.Seq.{paste};
-ghost use Rattle.store.specs.Units.{no_head};
-
-use crate::parts::Head;
 
 pub(crate) fn cell<T: Copy>(cells: &[T], i: usize) -> T
     requires { i < length cells.now }
@@ -41,13 +38,4 @@ pub(crate) fn shift<T: Copy>(cells: &mut [T], from: usize, n: usize, to: usize)
     ensures { cells.new ≡ paste cells.old to (drop from cells.old) n }
 {
     cells.copy_within(from..from + n, to);
-}
-
-// Makes every list empty.
-pub(crate) fn wipe(heads: &mut [Head])
-    ensures { heads.new ≡ replicate (length heads.old) no_head }
-{
-    for head in heads.iter_mut() {
-        *head = Head::EMPTY;
-    }
 }

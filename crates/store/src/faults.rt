@@ -1,33 +1,31 @@
-ghost use Rattle.std.specs.Prelude.{◌≡◌, codes};
-ghost use Rattle.store.specs.Faults.{detail as told, layer as layered, number as numbered};
+ghost use Rattle.std.proofs.Common.{rules};
+ghost use Rattle.store.specs.declared.parts.PoolFault.TheVariants.{NoBlock, Unknown};
+ghost use Rattle.store.specs.Faults.{refusal};
 
 use crate::parts::PoolFault;
+use ir::fault::{Fault, Layer};
+use ir::reason::Reason;
 
-impl PoolFault {
-    // The refusal's number.
-    pub fn number(&self) -> u32
-        ensures { result ≡ numbered self.now }
-    {
+impl Fault for PoolFault {
+    ghost told = { refusal };
+
+    ghost numbered = { elim [ Unknown n ↦ Prim.search rules | NoBlock n ↦ Prim.search rules ] };
+
+    fn reason(self) -> Reason {
         match self {
-            PoolFault::Unknown(_) => 1,
-            PoolFault::NoBlock(_) => 14,
+            PoolFault::Unknown(_) => Reason::Unknown,
+            PoolFault::NoBlock(_) => Reason::NoBlock,
         }
+    }
+
+    fn layer(self) -> Layer {
+        Layer::Pool
     }
 
     // The list number or place that does not exist, or the cells or length wanted.
-    pub fn detail(&self) -> u32
-        ensures { result ≡ told self.now }
-    {
+    fn detail(self) -> u32 {
         match self {
-            PoolFault::Unknown(n) => *n,
-            PoolFault::NoBlock(n) => *n,
+            PoolFault::Unknown(n) | PoolFault::NoBlock(n) => n,
         }
-    }
-
-    // The layer that refuses.
-    pub fn layer(&self) -> &'static str
-        ensures { result.now ≡ layered self.now }
-    {
-        "pool"
     }
 }

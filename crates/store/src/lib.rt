@@ -1,5 +1,6 @@
 #![tactic(auto)]
 
+mod blocks;
 pub mod calls;
 mod cells;
 mod classes;

@@ -9,29 +9,16 @@ pub struct SizeRecord {
 }
 
 impl SizeRecord {
-    // Puts a block before the others, and answers the one that comes after it.
-    fn push(&mut self, block: u32) -> u32
-        requires { self.old.count + 1 < 2 ^ 32 }
-        ensures next { result ≡ self.old.first }
-        ensures after { self.new ≡ record { first = block; count = self.old.count + 1 } }
+    // Links a block to the first one, before which it is to come.
+    pub(crate) fn link(self, links: &mut [u32], block: u32)
+        requires { block < length links.old }
+        ensures { links.new ≡ slice_set links.old block self.first }
     {
-        let next = self.first;
-        self.first = block;
-        self.count += 1;
-        next
-    }
-
-    // Takes the first block out; the next one is then the first.
-    fn pop(&mut self, next: u32)
-        requires { 0 < self.old.count }
-        ensures { self.new ≡ record { first = next; count = self.old.count - 1 } }
-    {
-        self.first = next;
-        self.count -= 1;
+        links[block as usize] = self.first;
     }
 }
 
-// One record for each size of block: 4 * 2^k cells, k from 0 to 28.
+// One record for each size of block: 4 * 2^k cells, k from 0 to 28. A size is a class less one, asked where it is made.
 #[derive(Clone, Copy)]
 pub struct SizeTable {
     pub(crate) records: [SizeRecord; 29],
@@ -55,24 +42,25 @@ impl SizeTable {
         self.records[k as usize]
     }
 
-    // A block of a size is freed: answers the one that it links to.
-    pub(crate) fn push(&mut self, k: u32, block: u32) -> u32
+    // Puts a block before the others of a size, to which it links.
+    pub(crate) fn push(&mut self, k: u32, block: u32)
         requires within { k < 29 }
         requires few { (slice_index_or self.old.records k no_record).count + 1 < 2 ^ 32 }
-        ensures next { result ≡ (slice_index_or self.old.records k no_record).first }
-        ensures after { self.new.records ≡ slice_set self.old.records k (record { first = block; count = (slice_index_or self.old.records k no_record).count + 1 }) }
+        ensures { self.new.records ≡ slice_set self.old.records k (record { first = block; count = (slice_index_or self.old.records k no_record).count + 1 }) }
     {
         let record = &mut self.records[k as usize];
-        record.push(block)
+        record.first = block;
+        record.count += 1;
     }
 
-    // The first block of a size is taken; it linked to the next.
+    // Takes the first block of a size out; the next one is then the first.
     pub(crate) fn pop(&mut self, k: u32, next: u32)
         requires within { k < 29 }
         requires some { 0 < (slice_index_or self.old.records k no_record).count }
         ensures { self.new.records ≡ slice_set self.old.records k (record { first = next; count = (slice_index_or self.old.records k no_record).count - 1 }) }
     {
         let record = &mut self.records[k as usize];
-        record.pop(next);
+        record.first = next;
+        record.count -= 1;
     }
 }

@@ -2,6 +2,7 @@
 ghost use Rattle.std.specs.Prelude.{◌≡◌, ℕ, ◌+◌, ◌-◌, ◌*◌, ◌^◌, ◌<◌, ◌≤◌, true, ◌||◌, nat_le, nat_lt};
 ghost use Rattle.store.specs.Bank.{no_block, obtainable, obtained, stock, usable};
 
+use crate::blocks::Blocks;
 use crate::classes::{class_for, units_of};
 use crate::parts::PoolFault;
 use crate::sizes::SizeTable;
@@ -20,35 +21,63 @@ fn enough(count: u32, size: u32, left: u32) -> bool
     count > 0 || size <= left
 }
 
-// Whether a block of a class can be had.
-pub(crate) fn offers(sizes: &SizeTable, left: u32, class: u32) -> bool
-    ensures { result ≡ obtainable (stock sizes.now left) class }
-{
-    if class == 0 {
-        return true;
-    }
-    if class > 29 {
-        return false;
-    }
-    enough(sizes.record_of(class - 1).count, units_of(class), left)
+// What blocks are taken from: the freed ones of each size, and so many untouched units.
+#[derive(Clone, Copy)]
+pub(crate) struct Supply {
+    sizes: SizeTable,
+    left: u32,
 }
 
-// Counts a block of a class as had, and answers the untouched units that are left then.
-pub(crate) fn spend(sizes: &mut SizeTable, left: u32, class: u32) -> u32
-    requires { obtainable (stock sizes.old left) class ≡ true }
-    ensures { stock sizes.new result ≡ obtained (stock sizes.old left) class }
-{
-    if class == 0 {
-        return left;
+impl<'a, T> Blocks<'a, T> {
+    // What is left to take.
+    pub(crate) fn supply(&self) -> Supply
+        ensures { result ≡ record { sizes = self.now.sizes; left = self.now.limit - self.now.used } }
+    {
+        Supply {
+            sizes: self.sizes,
+            left: self.limit - self.used,
+        }
     }
-    if sizes.record_of(class - 1).count > 0 {
-        sizes.pop(class - 1, 0);
-        return left;
+}
+
+impl Supply {
+    // Whether a block of a class can be had.
+    #[tactic(auto, using(crate::proofs::Models::offer_size, crate::proofs::Models::offer_none, crate::proofs::Models::offer_past, crate::proofs::Stores::count_at))]
+    pub(crate) fn offers(&self, class: u32) -> bool
+        ensures { result ≡ obtainable (stock self.now.sizes self.now.left) class }
+    {
+        if class == 0 {
+            return true;
+        }
+        if class > 29 {
+            return false;
+        }
+        enough(
+            self.sizes.record_of(class - 1).count,
+            units_of(class),
+            self.left,
+        )
     }
-    left - units_of(class)
+
+    // Counts a block of a class as had.
+    #[tactic(auto, using(crate::proofs::Models::obtained_none, crate::proofs::Models::had_class))]
+    pub(crate) fn spend(&mut self, class: u32)
+        requires { obtainable (stock self.old.sizes self.old.left) class ≡ true }
+        ensures { stock self.new.sizes self.new.left ≡ obtained (stock self.old.sizes self.old.left) class }
+    {
+        if class == 0 {
+            return;
+        }
+        if self.sizes.record_of(class - 1).count > 0 {
+            self.sizes.pop(class - 1, 0);
+        } else {
+            self.left -= units_of(class);
+        }
+    }
 }
 
 // The refusal of a block for n items.
+#[tactic(auto, using(crate::proofs::Views::units_most), unfolding(crate::specs::Bank::no_block))]
 pub(crate) fn no_block(n: usize) -> PoolFault
     ensures { result ≡ no_block n }
 {
@@ -56,5 +85,5 @@ pub(crate) fn no_block(n: usize) -> PoolFault
     if class <= 29 {
         return PoolFault::NoBlock(4 * units_of(class));
     }
-    PoolFault::NoBlock(n.min(0xffff_ffff) as u32)
+    PoolFault::NoBlock(u32::try_from(n).unwrap_or(u32::MAX))
 }

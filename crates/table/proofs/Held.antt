@@ -1,11 +1,11 @@
 -- A table held in memory: row i is read from cell i and from a memory that all cells share.
 use Rattle.std.proofs.Common.{◌≡◌, ℕ, ◌+◌, ◌<◌, ◌≤◌, ◌≢◌, ◌⊎◌, List, [], ◌∷◌, ◌++◌, map, length, get_or, take, set, sym, ap, ◌∙◌, subst, inl, inr, arith, length-set, length-take}
 use lib.ListN.{length-map}
-use Rattle.std.proofs.lemmas.List.{get_or-take, get_or_past, get_or_push, get_or_append_left, length_push, get_or-set_same, get_or-set_other, ext_get_or, map-set, map_push, get_or-map, take_more_set, length-take-le}
+use Rattle.std.proofs.lemmas.List.{get_or-take, get_or_past, get_or_push, get_or_append_left, length_push, get_or-set_same, get_or-set_other, ext_get_or, map-set, get_or-map, length-take-le}
 use Rattle.std.proofs.lemmas.List.Sums.{sum_by-set, sum_by_push}
 use Rattle.std.proofs.lemmas.Bool.{cases_eq, cases_order}
 use Rattle.ir.specs.declared.entities.Value.{Value}
-use Rattle.table.specs.Table.{Row, Table, row, operands, no_row, total, with_operand, with_row}
+use Rattle.table.specs.Table.{Row, Table, row, operands, no_row, total, with_operand}
 
 pub take_set : {X : Type 0} (d : X) (n : ℕ) (l : List X) (i : ℕ) (a : X) → i < n → n ≤ length l → take n (set l i a) ≡ set (take n l) i a
 take_set d n l i a h j =
@@ -93,8 +93,3 @@ module _ {C M : Type 0} (none : C) (read : M → C → Row) (insts words : ℕ) 
       ap (λ (rs : List Row). record { rows = rs; insts = insts; words = words })
       (map-set (read m) cs i c
       ∙ ap (set (map (read m) cs) i) (e ∙ ap (λ (x : Row). record { opcode = x.opcode; operands = set x.operands k v }) (sym (row_held m cs i h))))
-
-  -- one cell more
-  pub push_held : (m : M) (rs : List C) (n : ℕ) (c : C) → n < length rs → held m (take (n + 1) (set rs n c)) ≡ with_row (held m (take n rs)) (read m c)
-  push_held m rs n c h =
-      ap (λ (x : List Row). record { rows = x; insts = insts; words = words }) (ap (map (read m)) (take_more_set rs n c h) ∙ map_push (read m) (take n rs) c)

@@ -1,5 +1,5 @@
 -- What an instruction table means, and what each call answers and leaves.
-use Rattle.std.specs.Prelude.{ℕ, ◌+◌, ◌^◌, ◌≤◌, cond, List, [], ◌∷◌, ◌++◌, length, Ok, Err, sum_by, Result, nat_le, nat_lt, slice_index_or, slice_set}
+use Rattle.std.specs.Prelude.{ℕ, ◌+◌, ◌^◌, ◌<◌, ◌≤◌, cond, List, [], ◌∷◌, ◌++◌, length, Ok, Err, sum_by, Result, nat_le, nat_lt, slice_index_or, slice_set}
 use Rattle.ir.specs.declared.entities.Value.{Value}
 use Rattle.ir.specs.declared.entities.Inst.{Inst}
 use Rattle.ir.specs.declared.entities.Opcode.{Opcode}
@@ -44,6 +44,15 @@ pub record Bounded (t : Table) : Type 0 where
   pub words_small : t.words ≤ 2 ^ 30
   pub rows_fit : count t ≤ t.insts
   pub words_fit : total t.rows ≤ t.words
+
+-- a place of an instruction's operands, and room for n operands more
+pub record Placed (t : Table) (i k : ℕ) : Type 0 where
+  pub within : i < count t
+  pub place : k < length (operands t i)
+
+pub record Fits (t : Table) (n : ℕ) : Type 0 where
+  pub inst : count t < t.insts
+  pub words : total t.rows + n ≤ t.words
 
 -- an answer on an instruction, and on a place of its operands, where they exist
 abbrev pub at_inst : {A : Type 0} → Table → Inst → Result A TableFault → Result A TableFault

@@ -1,4 +1,4 @@
-ghost use Rattle.std.specs.Prelude.{◌≡◌, true, Ok, Err, Decides};
+ghost use Rattle.std.specs.Prelude.{◌≡◌, true, Decides, OnErr};
 ghost use Rattle.table.specs.Calls.{answer, answers, after, after_all};
 
 use crate::calls::{TableCall, TableReply};
@@ -9,34 +9,34 @@ use crate::inst_table::InstTable;
 pub fn apply<T: InstTable>(table: &mut T, call: TableCall<'_>) -> Result<TableReply, TableFault>
     ensures says { result ≡ answer call.entry (T.meaning table.old) }
     ensures holds { T.meaning table.new ≡ after call.entry (T.meaning table.old) }
-    ensures kept { elim result [ Ok _ ↦ Unit {0} | Err _ ↦ table.new ≡ table.old ] }
+    ensures kept { OnErr result (table.new ≡ table.old) }
 {
-    match call {
-        TableCall::Count => Ok(TableReply::Number(table.count())),
-        TableCall::InstLimit => Ok(TableReply::Number(table.inst_limit())),
-        TableCall::OperandLimit => Ok(TableReply::Number(table.operand_limit())),
-        TableCall::OperandTotal => Ok(TableReply::Number(table.operand_total())),
-        TableCall::Opcode(inst) => Ok(TableReply::Code(table.opcode(inst)?)),
-        TableCall::OperandCount(inst) => Ok(TableReply::Number(table.operand_count(inst)?)),
-        TableCall::Operand(inst, place) => Ok(TableReply::Holds(table.operand(inst, place)?)),
+    Ok(match call {
+        TableCall::Count => TableReply::Number(table.count()),
+        TableCall::InstLimit => TableReply::Number(table.inst_limit()),
+        TableCall::OperandLimit => TableReply::Number(table.operand_limit()),
+        TableCall::OperandTotal => TableReply::Number(table.operand_total()),
+        TableCall::Opcode(inst) => TableReply::Code(table.opcode(inst)?),
+        TableCall::OperandCount(inst) => TableReply::Number(table.operand_count(inst)?),
+        TableCall::Operand(inst, place) => TableReply::Holds(table.operand(inst, place)?),
         TableCall::SetOperand(inst, place, value) => {
             table.set_operand(inst, place, value)?;
-            Ok(TableReply::Done)
+            TableReply::Done
         }
-        TableCall::Add(opcode, operands) => Ok(TableReply::Made(table.add(opcode, operands)?)),
-        TableCall::AddCopy(inst) => Ok(TableReply::Made(table.add_copy(inst)?)),
-    }
+        TableCall::Add(opcode, operands) => TableReply::Made(table.add(opcode, operands)?),
+        TableCall::AddCopy(inst) => TableReply::Made(table.add_copy(inst)?),
+    })
 }
 
-// Whether two answers are the same.
-pub fn same(a: Result<TableReply, TableFault>, b: Result<TableReply, TableFault>) -> bool
-    ensures { Decides result (a ≡ b) }
+// Makes one call of both tables, and says whether both gave the same answer.
+fn apply_both<L: InstTable, R: InstTable>(left: &mut L, right: &mut R, call: TableCall<'_>) -> bool
+    ensures says { Decides result (answer call.entry (L.meaning left.old) ≡ answer call.entry (R.meaning right.old)) }
+    ensures left { L.meaning left.new ≡ after call.entry (L.meaning left.old) }
+    ensures right { R.meaning right.new ≡ after call.entry (R.meaning right.old) }
 {
-    match (a, b) {
-        (Ok(x), Ok(y)) => x == y,
-        (Err(x), Err(y)) => x == y,
-        _ => false,
-    }
+    let one = apply(left, call);
+    let other = apply(right, call);
+    one == other
 }
 
 // Makes the calls, one after another, of both tables, and says whether both always gave the same answer.
@@ -52,13 +52,8 @@ pub fn answer_alike<L: InstTable, R: InstTable>(
     ensures alike { L.meaning left.old ≡ R.meaning right.old → (result ≡ true) × (L.meaning left.new ≡ R.meaning right.new) }
 {
     let mut alike = true;
-    for k in 0..calls.len() {
-        let call = calls[k];
-        let one = apply(left, call);
-        let other = apply(right, call);
-        if !same(one, other) {
-            alike = false;
-        }
+    for call in calls {
+        alike &= apply_both(left, right, *call);
     }
     alike
 }

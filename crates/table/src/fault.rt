@@ -1,7 +1,9 @@
-ghost use Rattle.std.specs.Prelude.{◌≡◌};
+ghost use Rattle.std.proofs.Common.{rules};
+ghost use Rattle.table.specs.declared.fault.TableFault.TheVariants.{Unknown, Full};
 ghost use Rattle.table.specs.Refusals.{refusal};
 
-use ir::fault::Layer;
+use ir::fault::{Fault, Layer};
+use ir::reason::Reason;
 
 // Why a table refuses a call.
 #[derive(Clone, Copy, PartialEq, Eq)]
@@ -12,25 +14,23 @@ pub enum TableFault {
     Full(u32),
 }
 
-impl TableFault {
-    pub fn number(self) -> u32
-        ensures { result ≡ (refusal self).number }
-    {
+impl Fault for TableFault {
+    ghost told = { refusal };
+
+    ghost numbered = { elim [ Unknown n ↦ Prim.search rules | Full n ↦ Prim.search rules ] };
+
+    fn reason(self) -> Reason {
         match self {
-            TableFault::Unknown(_) => 1,
-            TableFault::Full(_) => 13,
+            TableFault::Unknown(_) => Reason::Unknown,
+            TableFault::Full(_) => Reason::Full,
         }
     }
 
-    pub fn layer(self) -> Layer
-        ensures { result ≡ (refusal self).layer }
-    {
+    fn layer(self) -> Layer {
         Layer::Table
     }
 
-    pub fn detail(self) -> u32
-        ensures { result ≡ (refusal self).detail }
-    {
+    fn detail(self) -> u32 {
         match self {
             TableFault::Unknown(n) => n,
             TableFault::Full(limit) => limit,

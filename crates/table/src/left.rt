@@ -3,7 +3,7 @@ ghost use Rattle.table.specs.Table.{count, total};
 
 use crate::inst_table::InstTable;
 
-// How many instructions can still be added.
+// How many instructions can still be added. The two rooms are counted apart: either may be used up first.
 pub fn insts_left<T: InstTable>(table: &T) -> u32
     ensures { result ≡ (T.meaning table.now).insts - count (T.meaning table.now) }
 {

@@ -1,17 +1,13 @@
 -- What packed memory says of values.
-use Rattle.std.specs.Prelude.{◌≡◌, ℕ, ◌<◌, List, [], ◌∷◌, map, Ok, Err, Result}
+use Rattle.std.specs.Prelude.{◌≡◌, ℕ, ◌<◌, List, [], ◌∷◌, map}
+use Rattle.std.specs.Result.{result_unwrap_or}
 use Rattle.ir.specs.declared.value_data.ValueData.{ValueData}
 use Rattle.ir.specs.declared.value_data.ValueDataPacked.{ValueDataPacked}
-use Rattle.ir.specs.declared.fault.PackFault.{PackFault}
 use Rattle.ir.specs.Packing.{packed, unpacked, type, retired_mark}
-
-abbrev pub or_retired : Result ValueData PackFault → ValueData
-or_retired (Ok d) = d
-or_retired (Err e) = retired_mark
 
 -- what an entry unpacks to; one that does not unpack reads as the retired mark
 abbrev pub definition : ValueDataPacked → ValueData
-definition p = or_retired (unpacked p)
+definition p = result_unwrap_or (unpacked p) retired_mark
 
 abbrev pub definitions : List ValueDataPacked → List ValueData
 definitions ps = map definition ps
@@ -20,13 +16,9 @@ definitions ps = map definition ps
 abbrev pub retired_fields : ValueDataPacked
 retired_fields = record { x = 0; y = 0xFFFF_FFFF; flags = 0x8000 }
 
-abbrev pub or_retired_fields : Result ValueDataPacked PackFault → ValueDataPacked
-or_retired_fields (Ok p) = p
-or_retired_fields (Err e) = retired_fields
-
 -- the fields that a definition is kept in; its type is to fit beside the tag
 abbrev pub stored : ValueData → ValueDataPacked
-stored d = or_retired_fields (packed d)
+stored d = result_unwrap_or (packed d) retired_fields
 
 abbrev pub Narrow : ValueData → Type 0
 Narrow d = (type d).0 < 16384

@@ -1,5 +1,5 @@
 -- What a value leads to through aliases.
-use Rattle.std.specs.Prelude.{◌≡◌, ℕ, zero, suc, ◌+◌, ◌<◌, ◌≤◌, cond, ◌↔◌, List, [], ◌∷◌, length, Some, None, Option, slice_index_or, slice_set}
+use Rattle.std.specs.Prelude.{◌≡◌, ℕ, zero, suc, ◌<◌, ◌≤◌, cond, ◌↔◌, List, length, Some, None, Option, slice_index_or, slice_set, sum_by}
 use Rattle.ir.specs.declared.entities.Value.{Value}
 use Rattle.ir.specs.declared.value_data.ValueData.{ValueData}
 use Rattle.ir.specs.declared.value_data.ValueData.TheVariants.{Inst, Param, Alias, Union}
@@ -63,8 +63,7 @@ weight (Link original) = 1
 weight Gone = 0
 
 abbrev pub live_aliases : List ValueData → ℕ
-live_aliases [] = 0
-live_aliases (d ∷ ds) = weight (kind d) + live_aliases ds
+live_aliases vs = sum_by (λ d. weight (kind d)) vs
 
 -- On every table, rings included:
 

@@ -1,3 +1,4 @@
 pub mod Defs
+pub mod Fronts
 pub mod Leads
 pub mod Tables

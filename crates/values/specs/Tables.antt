@@ -1,36 +1,17 @@
 -- What a value table holds: the first `count` entries of its memory, one for each value.
-use Rattle.std.specs.Prelude.{◌≡◌, ℕ, ◌+◌, ◌<◌, ◌≤◌, List, [], ◌∷◌, ◌++◌, length, take, slice_index_or, slice_set}
+use Rattle.std.specs.Prelude.{◌≡◌, ◌≤◌, List, length}
 use Rattle.ir.specs.declared.value_data.ValueData.{ValueData}
-use Rattle.ir.specs.declared.value_data.ValueDataPacked.{ValueDataPacked}
 use Rattle.values.specs.declared.table.ValueTable.{ValueTable}
-use Rattle.values.specs.Defs.{definitions, stored, Canonical, retired_fields}
-
--- the first n definitions of a memory
-unfoldable pub listed : ℕ → List ValueDataPacked → List ValueData
-listed n ps = definitions (take n ps)
-
--- the first n entries are canonical
-abbrev pub Canonicals : ℕ → List ValueDataPacked → Type 0
-Canonicals n ps = (i : ℕ) → i < n → Canonical (slice_index_or ps i retired_fields)
+pub use Rattle.values.specs.Fronts.{listed, Canonicals, Put}
 
 -- the definitions of the values that exist
 abbrev pub value_data : ValueTable → List ValueData
 value_data t = listed t.count t.defs.now
 
--- What every call on a table asks and keeps.
+-- what each table keeps, by its ghost fields
 pub record SoundValues (t : ValueTable) : Type 0 where
   pub counted : t.count ≤ t.limit
   pub limited : t.limit ≤ length t.defs.now
   pub few : t.limit ≤ 1073741824
   pub sized : length (value_data t) ≡ t.count
   pub canonical : Canonicals t.count t.defs.now
-
--- One definition written into memory: what that is to the first n definitions, with the place among them or behind
--- them.
-pub record Put (before after : List ValueDataPacked) (place : ℕ) (d : ValueData) : Type 0 where
-  pub memory : after ≡ slice_set before place (stored d)
-  pub within : (n : ℕ) → place < n → listed n after ≡ slice_set (listed n before) place d
-  pub behind : listed (place + 1) after ≡ listed place before ++ d ∷ []
-  pub long : (n : ℕ) → n ≤ length before → length (listed n after) ≡ n
-  pub canonical_within : (n : ℕ) → place < n → Canonicals n before → Canonicals n after
-  pub canonical_behind : Canonicals place before → Canonicals (place + 1) after

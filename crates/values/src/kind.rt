@@ -4,7 +4,7 @@ ghost use Rattle.values.specs.Defs.{definition};
 ghost use Rattle.values.specs.Leads.{kind};
 
 use ir::entities::Value;
-use ir::value_data::ValueDataPacked;
+use ir::value_data::{ValueData, ValueDataPacked};
 
 #[derive(Clone, Copy)]
 pub enum Kind {
@@ -19,11 +19,10 @@ pub enum Kind {
 pub fn kind_of(def: ValueDataPacked) -> Kind
     ensures { result ≡ kind (definition def) }
 {
-    match def.flags >> 14 {
-        2 if def.flags == 0x8000 && def.y == 0xFFFF_FFFF => Kind::Gone,
-        2 => Kind::Link(Value(def.y)),
-        3 => Kind::Root,
-        _ if def.x < 65536 => Kind::Root,
-        _ => Kind::Gone,
+    match def.unpack() {
+        Ok(data) if data.is_retired() => Kind::Gone,
+        Ok(ValueData::Alias { original, .. }) => Kind::Link(original),
+        Ok(_) => Kind::Root,
+        Err(_) => Kind::Gone,
     }
 }

@@ -12,6 +12,7 @@ pub fn leads_laws() -> u8
 }
 
 // An alias may be redirected to the end of its way.
+#[tactic(auto, using(crate::proofs::Redirect::redirects))]
 pub fn redirect_law() -> u8
     ensures { Redirects }
 {

@@ -13,20 +13,16 @@ fn unpacked(def: ValueDataPacked) -> ValueData
     ensures says { result ≡ definition def }
     ensures narrow { Narrow result }
 {
-    match def.unpack() {
-        Ok(data) => data,
-        Err(_) => ValueData::RETIRED,
-    }
+    def.unpack().unwrap_or(ValueData::RETIRED)
 }
 
 // The entry of v.
 fn entry(defs: &[ValueDataPacked], v: Value) -> ValueDataPacked
     ensures { definition result ≡ at (definitions defs.now) v }
 {
-    if v.0 as usize >= defs.len() {
-        return ValueDataPacked::RETIRED;
-    }
-    defs[v.0 as usize]
+    defs.get(v.0 as usize)
+        .copied()
+        .unwrap_or(ValueDataPacked::RETIRED)
 }
 
 // The definition of v, which can be packed again.
@@ -39,6 +35,7 @@ pub fn read(defs: &[ValueDataPacked], v: Value) -> ValueData
 
 // What v leads to, or nothing where it leads nowhere. A way is shorter than its table, so that a longer walk runs in a
 // ring.
+#[tactic(auto, using(crate::proofs::Reading::turn, crate::proofs::Reading::spent))]
 pub fn resolve(defs: &[ValueDataPacked], v: Value) -> Option<Value>
     ensures { result ≡ leads_to (definitions defs.now) v }
 {

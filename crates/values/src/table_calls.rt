@@ -1,29 +1,28 @@
-// The calls on a value table. They are public for the graph above alone, which holds a sound table and asks them
-// nothing that it has not judged before.
+// The calls on a value table. They are public for the graph above alone, which asks them nothing that it has not
+// judged before.
 ghost use Rattle.std.specs.Prelude.{◌≡◌, ℕ, ◌+◌, ◌<◌, ◌≤◌, min, [], ◌∷◌, ◌++◌, length, nat_le, nat_lt, slice_set};
 ghost use Rattle.ir.specs.Packing.{type};
 ghost use Rattle.values.specs.Defs.{definition, definitions, stored, Narrow};
 ghost use Rattle.values.specs.Leads.{at, leads_to, Exists};
-ghost use Rattle.values.specs.Tables.{value_data, Put, SoundValues};
+ghost use Rattle.values.specs.Tables.{value_data, Put};
 
 use crate::resolve::{read, resolve};
 use crate::table::ValueTable;
 use ir::entities::{Type, Value};
 use ir::value_data::{ValueData, ValueDataPacked};
 
-// The fields that keep a definition.
+// The fields that keep a definition. That its type fits beside the tag stays a clause: a struct that says so would be
+// built and taken apart again at each call.
 fn fields(data: ValueData) -> ValueDataPacked
     requires { Narrow «data» }
     ensures says { result ≡ stored «data» }
     ensures back { definition result ≡ «data» }
 {
-    match data.pack() {
-        Ok(packed) => packed,
-        Err(_) => ValueDataPacked::RETIRED,
-    }
+    data.pack().unwrap_or(ValueDataPacked::RETIRED)
 }
 
 // Writes a definition at a place.
+#[tactic(auto, using(crate::proofs::Fronts::puts))]
 fn put(defs: &mut [ValueDataPacked], place: usize, data: ValueData)
     requires within { place < length defs.old }
     requires narrow { Narrow «data» }
@@ -41,8 +40,8 @@ fn room(cells: usize, most: usize) -> u32
 
 impl<'a> ValueTable<'a> {
     // No value yet, and room for as many as the memory holds, at most `most` and 2^30.
+    #[tactic(auto, unfolding(crate::specs::Fronts::listed))]
     pub fn new(defs: &'a mut [ValueDataPacked], most: usize) -> ValueTable<'a>
-        ensures sound { SoundValues result }
         ensures holds { value_data result ≡ [] }
         ensures limit { result.limit ≡ min (min (length defs.old) most) 1073741824 }
         ensures memory { result.defs.now ≡ defs.old }
@@ -57,7 +56,6 @@ impl<'a> ValueTable<'a> {
 
     // Whether a value exists.
     pub fn knows(&self, v: Value) -> bool
-        requires { SoundValues self.now }
         ensures { result ≡ nat_lt v.0 (length (value_data self.now)) }
     {
         v.0 < self.count
@@ -65,24 +63,21 @@ impl<'a> ValueTable<'a> {
 
     // Whether the table is at its limit.
     pub fn is_full(&self) -> bool
-        requires { SoundValues self.now }
         ensures { result ≡ nat_le self.now.limit (length (value_data self.now)) }
     {
         self.count >= self.limit
     }
 
     // The packed definitions of the values that exist.
+    #[tactic(auto, unfolding(crate::specs::Fronts::listed))]
     fn live(&self) -> &[ValueDataPacked]
-        requires { SoundValues self.now }
         ensures { definitions result.now ≡ value_data self.now }
     {
-        let count = self.count as usize;
-        &self.defs[0..count]
+        &self.defs[..self.count as usize]
     }
 
     // The definition of a value; an unknown one reads as the retired mark.
     pub fn read(&self, v: Value) -> ValueData
-        requires { SoundValues self.now }
         ensures says { result ≡ at (value_data self.now) v }
         ensures narrow { Narrow result }
     {
@@ -91,7 +86,6 @@ impl<'a> ValueTable<'a> {
 
     // The type of a value; an unknown one has none.
     pub fn value_type(&self, v: Value) -> Type
-        requires { SoundValues self.now }
         ensures says { result ≡ type (at (value_data self.now) v) }
         ensures narrow { result.0 < 16384 }
     {
@@ -100,7 +94,6 @@ impl<'a> ValueTable<'a> {
 
     // What a value leads to, or nothing where it leads nowhere.
     pub fn resolve_aliases(&self, v: Value) -> Option<Value>
-        requires { SoundValues self.now }
         ensures { result ≡ leads_to (value_data self.now) v }
     {
         resolve(self.live(), v)
@@ -108,10 +101,8 @@ impl<'a> ValueTable<'a> {
 
     // A new value of that definition.
     pub fn make(&mut self, data: ValueData) -> Value
-        requires sound { SoundValues self.old }
         requires room { length (value_data self.old) < self.old.limit }
         requires narrow { Narrow «data» }
-        ensures sound { SoundValues self.new }
         ensures says { result.0 ≡ length (value_data self.old) }
         ensures holds { value_data self.new ≡ value_data self.old ++ «data» ∷ [] }
         ensures limit { self.new.limit ≡ self.old.limit }
@@ -125,10 +116,8 @@ impl<'a> ValueTable<'a> {
 
     // Another definition of a value.
     pub fn write(&mut self, v: Value, data: ValueData)
-        requires sound { SoundValues self.old }
         requires known { Exists (value_data self.old) v }
         requires narrow { Narrow «data» }
-        ensures sound { SoundValues self.new }
         ensures holds { value_data self.new ≡ slice_set (value_data self.old) v.0 «data» }
         ensures limit { self.new.limit ≡ self.old.limit }
         ensures memory { self.new.defs.now ≡ slice_set self.old.defs.now v.0 (stored «data») }

@@ -14,7 +14,6 @@ copy_list-requires c =
     let p = c.result_list-from.ensures.says in
     let k = c.result_list-from.ensures.within in
     record {
-      sound = c.requires.sound;
       fits = ap (λ (l : ℕ). fault_copy g.words l c.result_list-to.result) p
           ∙ (ap (fault_copy g.words (result_list g c.args.inst)) c.result_list-to.ensures.says
           ∙ copy_by_write g.words (result_list g c.args.inst) (result_list g c.args.new) (omega arith) c.requires.fits);
@@ -31,7 +30,6 @@ renew_results-requires c =
     ∙ ap (items_of g.words) c.result_list-from.ensures.says in
     let k = c.result_list-to.ensures.within in
     record {
-      sound = c.copy_list.ensures.sound;
       within = omega arith;
       short = subst (λ (vs : List Value). length vs ≤ 65536) (sym i) c.requires.short;
       room = ap (λ (x : Graph). values_full x (length (items_of h.words c.result_list-to.result))) e
@@ -41,7 +39,6 @@ renew_results-requires c =
 pub returns : goal.returns
 returns c =
     record {
-      sound = c.renew_results.ensures.sound;
       holds = c.renew_results.ensures.holds
           ∙ renewed_copy (graph_of c.args.defs.now) (graph_of c.copy_list.new.self) c.args.inst c.args.new c.result_list-from.result c.result_list-to.result
           c.result_list-from.ensures.says c.result_list-to.ensures.says c.result_list-to.ensures.within c.copy_list.ensures.holds;

@@ -10,33 +10,21 @@ use Rattle.insts.proofs.Clones.{renew_below, renew_ends, renew_lists, renew_more
 use Rattle.insts.proofs.clone.renew_results.Goals as goal
 
 pub loop-k-init : goal.loop-k-init
-loop-k-init c = renew_starts c.args.defs.now c.args.inst c.args.list c.requires.sound
+loop-k-init c = renew_starts c.args.defs.now c.args.inst c.args.list
 
-pub item-requires : goal.item-requires
-item-requires c =
-    let g = graph_of c.args.defs.now in
-    let e = renew_lists g c.args.inst c.args.list c.loop-k.k c.loop-k.defs c.loop-k.invariant in
-    record {
-      ready = c.loop-k.invariant.sound.words;
-      within = omega arith;
-      below = renew_below g c.args.inst c.args.list c.loop-k.k c.loop-k.defs c.loop-k.invariant (omega arith) c.requires.within;
-    }
+pub item-requires-clause-within : goal.item-requires-clause-within
+item-requires-clause-within c =
+    let e = renew_lists (graph_of c.args.defs.now) c.args.inst c.args.list c.loop-k.k c.loop-k.defs c.loop-k.invariant in omega arith
 
-pub type_among-ty-requires : goal.type_among-ty-requires
-type_among-ty-requires c = c.loop-k.invariant.sound
+pub item-requires-clause-below : goal.item-requires-clause-below
+item-requires-clause-below c =
+    renew_below (graph_of c.args.defs.now) c.args.inst c.args.list c.loop-k.k c.loop-k.defs c.loop-k.invariant (omega arith) c.requires.within
 
-pub overflow_cast-k : goal.overflow_cast-k
-overflow_cast-k c = omega arith
-
-pub define-v-requires : goal.define-v-requires
-define-v-requires c =
+pub define-v-requires-clause-room : goal.define-v-requires-clause-room
+define-v-requires-clause-room c =
     let g = graph_of c.args.defs.now in
     let f = ltb-false g.limits.values (length g.defs + length (items_of g.words c.args.list)) (when_none _ (Full g.limits.values) c.requires.room) in
-    record {
-      sound = c.loop-k.invariant.sound;
-      narrow = c.type_among-ty.ensures.narrow;
-      room = renew_room g c.args.inst c.args.list c.loop-k.k c.loop-k.defs c.loop-k.invariant (omega arith) f;
-    }
+    renew_room g c.args.inst c.args.list c.loop-k.k c.loop-k.defs c.loop-k.invariant (omega arith) f
 
 pub set_word-requires : goal.set_word-requires
 set_word-requires c =
@@ -45,7 +33,6 @@ set_word-requires c =
     let b = renew_below g c.args.inst c.args.list c.loop-k.k c.loop-k.defs c.loop-k.invariant (omega arith) c.requires.within in
     let w : (graph_of c.define-v.new.self).words ≡ (graph_of c.loop-k.defs).words = ap (λ (x : Graph). x.words) c.define-v.ensures.holds in
     record {
-      sound = c.define-v.ensures.sound;
       within = subst (λ (x : Bank Value). c.args.list < length x.lists) (sym w) (omega arith);
       below = subst (λ (x : Bank Value). c.loop-k.k < length (items_of x c.args.list)) (sym w) b;
     }
@@ -54,13 +41,12 @@ pub loop-k-preserved : goal.loop-k-preserved
 loop-k-preserved c =
     let g = graph_of c.args.defs.now in
     let t = renew_type g c.args.inst c.args.list c.loop-k.k c.loop-k.defs c.loop-k.invariant (omega arith) c.requires.within
-    c.item.result c.type_among-ty.result c.args.defs.now.values.count c.item.ensures (sym c.requires.sound.values.sized) c.type_among-ty.ensures.says in
+    c.item.result c.type_among-ty.result c.args.defs.now.values.count c.item.ensures (sym c.args.defs.now.values.sized) c.type_among-ty.ensures.says in
     renew_more g c.args.inst c.args.list c.loop-k.k c.loop-k.defs c.loop-k.invariant (omega arith) c.requires.within
-    c.type_among-ty.result c.define-v.result c.define-v.new.self c.set_word.new.self t c.define-v.ensures.says c.define-v.ensures.holds c.set_word.ensures.sound c.set_word.ensures.holds
+    c.type_among-ty.result c.define-v.result c.define-v.new.self c.set_word.new.self t c.define-v.ensures.says c.define-v.ensures.holds c.set_word.ensures.holds
 
 pub returns : goal.returns
 returns c =
     record {
-      sound = c.loop-k.invariant.sound;
       holds = renew_ends (graph_of c.args.defs.now) c.args.inst c.args.list c.loop-k.k c.loop-k.defs c.loop-k.invariant (omega arith);
     }

@@ -14,7 +14,6 @@ returns-in_err-judge c =
     let g = graph_of c.args.defs.now in
     let p = err_from_is_err_and c.from_residual.result c.from_residual.ensures.1 in
     rw (p.1, p.2) (record {
-      sound = c.requires.sound;
       says = refused_by (make_inst_results_rows g c.args.inst c.args.types.now c.args.reuse.now) _ _ g _ c.in_err-judge.ensures;
       kept = refl;
     })
@@ -25,10 +24,9 @@ seat_results-requires c =
     let ts = c.args.types.now in
     let us = c.args.reuse.now in
     let h = c.reserve_list.ensures.holds
-    ∙ ap (λ (l : ℕ). with_words g (holding (obtained (cleared g.words l) (smallest (length ts))) l [] (smallest (length ts)))) c.result_list-list.ensures in
+    ∙ ap (λ (l : ℕ). with_words g (holding (obtained (cleared g.words l) (smallest (length ts))) l [] (smallest (length ts)))) c.result_list-list.ensures.says in
     record {
-      sound = c.reserve_list.ensures.sound;
-      fits = subst (λ (l : ℕ). Seatable (graph_of c.reserve_list.new.self) l ts us) (sym c.result_list-list.ensures)
+      fits = subst (λ (l : ℕ). Seatable (graph_of c.reserve_list.new.self) l ts us) (sym c.result_list-list.ensures.says)
           (subst (λ (x : Graph). Seatable x (result_list g c.args.inst) ts us) (sym h) (seatable g c.args.inst ts us c.in_ok-judge.ensures));
     }
 
@@ -37,11 +35,10 @@ returns c =
     let g = graph_of c.args.defs.now in
     let ts = c.args.types.now in
     let us = c.args.reuse.now in
-    let l = c.result_list-list.ensures in
+    let l = c.result_list-list.ensures.says in
     let h = c.reserve_list.ensures.holds
     ∙ ap (λ (l : ℕ). with_words g (holding (obtained (cleared g.words l) (smallest (length ts))) l [] (smallest (length ts)))) l in
     record {
-      sound = c.seat_results.ensures.sound;
       says = answered g c.args.inst ts us c.in_ok-judge.ensures (graph_of c.seat_results.new.defs)
           (c.seat_results.ensures.holds ∙ ((λ j. seated_in (h j) c.args.inst (l j) ts us) ∙ made g c.args.inst ts us c.in_ok-judge.ensures));
       kept = tt;

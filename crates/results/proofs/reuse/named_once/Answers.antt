@@ -1,11 +1,11 @@
-use Rattle.std.proofs.Common.{List, get_or, None, Option, ap, ◌∙◌, arith}
+use Rattle.std.proofs.Common.{◌+◌, List, get_or, None, Option, ap, ◌∙◌, arith}
 use Rattle.std.proofs.lemmas.Result.{err_from_is_err_and}
 use Rattle.ir.specs.declared.entities.Value.{Value}
 use Rattle.model.specs.Refusals.{Row}
 use Rattle.model.specs.Edits.{repeated, reused}
 use Rattle.defs.specs.Graphs.{judged}
 use Rattle.results.specs.Seats.{named_again}
-use Rattle.results.proofs.Each.{passed, stopped, ended, repeated_each}
+use Rattle.results.proofs.Each.{stopped, repeated_each, rest_of}
 use Rattle.results.proofs.reuse.named_once.Goals as goal
 
 abbrev again : List (Option Value) → Row
@@ -16,12 +16,4 @@ returns-in_err-unique_entry c =
     let p = err_from_is_err_and c.from_residual.result c.from_residual.ensures.1 in
     rw (p.1, p.2) (stopped again named_again repeated_each
     c.args.reuse.now c.loop-k.k None _ (omega arith)
-    (c.in_err-unique_entry.ensures ∙ ap (λ (es : List (Option Value)). judged (named_again (get_or c.args.reuse.now c.loop-k.k None) es)) c.behind.ensures) c.loop-k.invariant)
-
-pub loop-k-preserved : goal.loop-k-preserved
-loop-k-preserved c =
-    passed again named_again repeated_each c.args.reuse.now c.loop-k.k None (omega arith)
-    (c.in_ok-unique_entry.ensures ∙ ap (λ (es : List (Option Value)). judged (named_again (get_or c.args.reuse.now c.loop-k.k None) es)) c.behind.ensures) c.loop-k.invariant
-
-pub returns : goal.returns
-returns c = ended again c.args.reuse.now c.loop-k.k (omega arith) c.loop-k.invariant
+    (c.in_err-unique_entry.ensures ∙ ap (λ (es : List (Option Value)). judged (named_again (get_or c.args.reuse.now c.loop-k.k None) es)) (rest_of c.args.reuse.now (c.loop-k.k + 1))) c.loop-k.invariant)

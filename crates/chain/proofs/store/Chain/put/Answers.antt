@@ -5,24 +5,12 @@ use Rattle.chain.proofs.store.Chain.put.Goals as goal
 pub invariant_of-self : goal.invariant_of-self
 invariant_of-self c =
     let s = c.args.self.now in
-    let T = past_sound s (s.used + c.args.k) (record { value = c.args.value; next = s.used + c.args.k + 1 }) (omega arith) in
-    record {
-      rows_room = s.rows_room;
-      links_room = simp length-set s.links_room;
-      insts_small = s.insts_small;
-      limit_small = s.limit_small;
-      counted = s.counted;
-      used_some = s.used_some;
-      linked = T.linked;
-      below = T.below;
-      apart = T.apart;
-      sums = T.sums;
-    }
+    let at = s.extent.operand_total + c.args.k in
+    let T = past_sound s at (record { value = c.args.value; next = at + 1 }) (omega arith) in
+    record { rows_room = s.rows_room; links_room = simp length-set s.links_room; linked = T.linked; below = T.below; apart = T.apart; sums = T.sums }
 
-pub returns : goal.returns
-returns c =
+pub returns-clause-same : goal.returns-clause-same
+returns-clause-same c =
     let s = c.args.self.now in
-    record {
-      link = refl;
-      same = record { mean = past_mean s (s.used + c.args.k) (record { value = c.args.value; next = s.used + c.args.k + 1 }) (omega arith); insts = refl; limit = refl; count = refl; used = refl };
-    }
+    let at = s.extent.operand_total + c.args.k in
+    record { mean = past_mean s at (record { value = c.args.value; next = at + 1 }) (omega arith); extent = refl }

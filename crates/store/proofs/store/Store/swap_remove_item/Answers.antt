@@ -1,12 +1,7 @@
 use Rattle.std.proofs.Common.{sym, ◌∙◌, arith}
 use Rattle.store.specs.Bank.{bank, items_of, swap_removed_at, swapped_out}
-use Rattle.store.specs.Held.{held}
 use Rattle.store.proofs.Acts.{emptied, shortened_none, shortened_some, swapped_length}
 use Rattle.store.proofs.store.Store.swap_remove_item.Goals as goal
-
-pub settle-requires : goal.settle-requires
-unfolding bank held
-settle-requires g c = record { sound = c.requires.ready.sound; within = c.requires.within }
 
 pub returns-then-n-eq1 : goal.returns-then-n-eq1
 unfolding swap_removed_at
@@ -15,8 +10,7 @@ returns-then-n-eq1 g c =
     let xs = items_of (bank s) c.args.l in
     let e = c.len-n.ensures in
     let n = swapped_length xs c.args.i c.requires.below in
-    let r = emptied s c.settle.new.self c.args.l c.requires.ready c.settle.ensures.sound c.settle.ensures.empty c.settle.ensures.holds in
-    record { ready = r.0; holds = r.1 ∙ sym (shortened_none (bank s) c.args.l (swapped_out xs c.args.i) (omega arith)) }
+    record { holds = emptied s _ c.args.l c.settle.ensures.holds ∙ sym (shortened_none (bank s) c.args.l (swapped_out xs c.args.i) (omega arith)) }
 
 pub returns-else-n-eq1 : goal.returns-else-n-eq1
 unfolding swap_removed_at
@@ -26,6 +20,5 @@ returns-else-n-eq1 g c =
     let e = c.len-n.ensures in
     let n = swapped_length xs c.args.i c.requires.below in
     record {
-      ready = c.swap_remove_within.ensures.ready;
       holds = c.swap_remove_within.ensures.holds ∙ sym (shortened_some (bank s) c.args.l (swapped_out xs c.args.i) (omega arith));
     }
