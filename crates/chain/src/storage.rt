@@ -1,5 +1,5 @@
 ghost use Rattle.std.specs.Prelude.{◌≡◌, ◌+◌, ◌^◌, ◌<◌, ◌≤◌, min, length, slice_index_or, slice_set};
-ghost use Rattle.table.specs.Table.{Placed, Fits, empty, count, row as row_at, operands as operandsAt, no_value, with_row};
+ghost use Rattle.table.specs.Table.{Placed, Fits, empty, count, row as row_at, operands as operandsAt, no_value, with_operand, with_row};
 ghost use Rattle.chain.specs.Links.{at, link, walked, row_of, Chained};
 ghost use Rattle.chain.specs.Chain.{chain_mean, chain_bounded, Same};
 
@@ -44,6 +44,14 @@ impl<'a> Chain<'a> {
             at = self.links[at].next as usize;
         }
         at
+    }
+
+    fn set(&mut self, i: usize, place: usize, value: Value)
+        requires { Placed (chain_mean self.old) i place }
+        ensures { chain_mean self.new ≡ with_operand (chain_mean self.old) i place value }
+    {
+        let at = self.find(i, place);
+        self.links[at].value = value;
     }
 
     // Writes the k-th cell behind the used ones.
@@ -124,8 +132,7 @@ impl<'a> Storage for Chain<'a> {
     }
 
     fn write(&mut self, i: usize, place: usize, value: Value) {
-        let at = self.find(i, place);
-        self.links[at].value = value;
+        self.set(i, place, value);
     }
 
     fn push(&mut self, opcode: Opcode, operands: &[Value]) {

@@ -13,34 +13,31 @@ pub trait InstTable {
     // Limits are at most 2^30, and neither is passed.
     ghost bounded: { (t : Self) → Bounded (meaning t) };
 
-    fn extent(&self) -> Extent
-        ensures { Measures result (meaning self.now) };
-
-    final fn count(&self) -> u32
-        ensures { result ≡ rowCount (meaning self.now) }
-    {
-        self.extent().count
-    }
+    fn count(&self) -> u32
+        ensures { result ≡ rowCount (meaning self.now) };
 
     // How many instructions there may be.
-    final fn inst_limit(&self) -> u32
-        ensures { result ≡ (meaning self.now).insts }
-    {
-        self.extent().inst_limit
-    }
+    fn inst_limit(&self) -> u32
+        ensures { result ≡ (meaning self.now).insts };
 
     // How many operands there may be, of all instructions together.
-    final fn operand_limit(&self) -> u32
-        ensures { result ≡ (meaning self.now).words }
-    {
-        self.extent().operand_limit
-    }
+    fn operand_limit(&self) -> u32
+        ensures { result ≡ (meaning self.now).words };
 
     // How many operands all instructions have together.
-    final fn operand_total(&self) -> u32
-        ensures { result ≡ total (meaning self.now).rows }
+    fn operand_total(&self) -> u32
+        ensures { result ≡ total (meaning self.now).rows };
+
+    // The four numbers together, for who keeps them as one to answer at once.
+    fn extent(&self) -> Extent
+        ensures { Measures result (meaning self.now) }
     {
-        self.extent().operand_total
+        Extent {
+            count: self.count(),
+            inst_limit: self.inst_limit(),
+            operand_total: self.operand_total(),
+            operand_limit: self.operand_limit(),
+        }
     }
 
     fn opcode(&self, inst: Inst) -> Result<Opcode, TableFault>

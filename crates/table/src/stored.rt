@@ -1,7 +1,6 @@
 ghost use Rattle.std.specs.Prelude.{◌≡◌, ◌<◌, IfOk, Ok};
 ghost use Rattle.table.specs.Table.{Placed, count, at_inst, at_place};
 
-use crate::extent::Extent;
 use crate::fault::TableFault;
 use crate::inst_table::InstTable;
 use crate::storage::Storage;
@@ -37,8 +36,20 @@ impl<S: Storage> InstTable for S {
     ghost bounded = { S.bounded };
 
     // By the trait's name, here and below: every storage has both extents.
-    fn extent(&self) -> Extent {
-        Storage::extent(self)
+    fn count(&self) -> u32 {
+        Storage::extent(self).count
+    }
+
+    fn inst_limit(&self) -> u32 {
+        Storage::extent(self).inst_limit
+    }
+
+    fn operand_limit(&self) -> u32 {
+        Storage::extent(self).operand_limit
+    }
+
+    fn operand_total(&self) -> u32 {
+        Storage::extent(self).operand_total
     }
 
     fn opcode(&self, inst: Inst) -> Result<Opcode, TableFault> {

@@ -1,4 +1,5 @@
 use crate::calls::*;
+use crate::handed_on::HandedOn;
 use chain::cell::{ChainRow, Link};
 use chain::store::Chain;
 use ir::entities::{Inst, Opcode, Value};
@@ -228,6 +229,27 @@ fn both_alike(rt: HostRuntime) {
     alike(
         &rt,
         &mut Rows::new(&mut [RowCell::EMPTY; 6], &mut [Value(0); 18]),
+        &mut Chain::new(&mut [ChainRow::EMPTY; 6], &mut [Link::EMPTY; 18]),
+    );
+}
+
+// What a table has, whatever its kind.
+fn has_room(table: &dyn InstTable) -> bool {
+    table.count() < table.inst_limit() && table.operand_total() < table.operand_limit()
+}
+
+// A user's own table is one like any other, and any is one behind `dyn`.
+#[test]
+fn own_table(rt: HostRuntime) {
+    let mut rows = [RowCell::EMPTY; 6];
+    let mut words = [Value(0); 18];
+    let mut table = HandedOn {
+        table: Rows::new(&mut rows, &mut words),
+    };
+    assert!(rt; has_room(&table) && table.extent().inst_limit == 6);
+    alike(
+        &rt,
+        &mut table,
         &mut Chain::new(&mut [ChainRow::EMPTY; 6], &mut [Link::EMPTY; 18]),
     );
 }

@@ -3,7 +3,7 @@ use Rattle.table.proofs.Held.{held}
 use Rattle.chain.specs.Links.{no_cell, link, row_of}
 use Rattle.chain.proofs.Walks.{Sound, set_mean, set_sound}
 use Rattle.chain.proofs.Means.{cells}
-use Rattle.chain.proofs.storage.ChainStorage.write.Goals as goal
+use Rattle.chain.proofs.store.Chain.set.Goals as goal
 
 pub invariant_of-self : goal.invariant_of-self
 invariant_of-self c =
