@@ -112,6 +112,7 @@ impl<'a> Defs<'a> {
     }
 
     // Whether the list of its instruction or block holds a value at its number.
+    #[inline]
     pub fn is_attached(&self, v: Value) -> bool
         ensures { result ≡ attached (graph_of self.now) v }
     {

@@ -23,11 +23,14 @@ impl ValueData {
         }
     }
 
-    // Whether this is the retired mark.
+    // Whether this is the retired mark. By its two fields: `==` compares what other kinds hold, too.
     pub fn is_retired(self) -> bool
         ensures { result ≡ retired self }
     {
-        self == ValueData::RETIRED
+        match self {
+            ValueData::Alias { ty, original } => ty.0 == 0 && original.0 == 0xFFFF_FFFF,
+            _ => false,
+        }
     }
 
     // The place and the instruction, where this is a result.

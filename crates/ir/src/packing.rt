@@ -1,5 +1,5 @@
 ghost use Rattle.std.specs.Prelude.{◌≡◌, ◌+◌, ◌*◌, ◌≢◌, ◌⊎◌, ◌↔◌, Ok, Err};
-ghost use Rattle.ir.specs.Packing.{number_of, packed, place, tag_of, type_of, unpacked};
+ghost use Rattle.ir.specs.Packing.{beside, fields, number_of, packed, place, tag_of, type_of, unpacked};
 
 use crate::bits::{payload_of, tagged};
 use crate::entities::{Block, Inst, Type, Value};
@@ -22,6 +22,14 @@ impl ValueDataPacked {
         y: 0xFFFF_FFFF,
         flags: 0x8000,
     };
+
+    // The fields of a definition by its tag, or a refusal of its type.
+    fn make(tag: Tag, ty: Type, x: u32, y: u32) -> Result<ValueDataPacked, PackFault>
+        ensures { result ≡ beside ty (fields (number_of tag) ty x y) }
+    {
+        let flags = tagged::<TYPE_BITS>(tag as u32, ty.0 as u32)? as u16;
+        Ok(ValueDataPacked { x, y, flags })
+    }
 
     // The kind of definition that the fields hold.
     pub fn tag(self) -> Tag
@@ -75,17 +83,23 @@ impl ValueDataPacked {
 
 impl ValueData {
     // The three fields that hold a definition, or a refusal of its type. Unpacking them gives the definition back.
+    // Each kind makes its own: a tuple of tag and fields, which is matched twice, keeps the compiler from making one jump
+    // of reading, changing and writing a definition.
     pub fn pack(self) -> Result<ValueDataPacked, PackFault>
         ensures says { result ≡ packed self }
         ensures back { elim result [ Ok p ↦ unpacked p ≡ Ok self | Err _ ↦ Unit {0} ] }
     {
-        let (tag, x, y) = match self {
-            ValueData::Inst { num, inst, .. } => (Tag::Inst, num as u32, inst.0),
-            ValueData::Param { num, block, .. } => (Tag::Param, num as u32, block.0),
-            ValueData::Alias { original, .. } => (Tag::Alias, 0, original.0),
-            ValueData::Union { x, y, .. } => (Tag::Union, x.0, y.0),
-        };
-        let flags = tagged::<TYPE_BITS>(tag as u32, self.ty().0 as u32)? as u16;
-        Ok(ValueDataPacked { x, y, flags })
+        match self {
+            ValueData::Inst { ty, num, inst } => {
+                ValueDataPacked::make(Tag::Inst, ty, num as u32, inst.0)
+            }
+            ValueData::Param { ty, num, block } => {
+                ValueDataPacked::make(Tag::Param, ty, num as u32, block.0)
+            }
+            ValueData::Alias { ty, original } => {
+                ValueDataPacked::make(Tag::Alias, ty, 0, original.0)
+            }
+            ValueData::Union { ty, x, y } => ValueDataPacked::make(Tag::Union, ty, x.0, y.0),
+        }
     }
 }

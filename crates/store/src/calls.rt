@@ -206,6 +206,8 @@ impl<'a, T: Copy> Store<'a, T> {
     }
 
     // Writes a list anew, in a block of a class that holds the items.
+    // Inline, so that a call that reserves, or writes a known few, pays for no more than that.
+    #[inline(always)]
     fn rewrite(&mut self, l: u32, class: u32, xs: &[T])
         requires within { l < length (bank self.old).lists }
         requires had { obtainable (cleared (bank self.old) l) class ≡ true }

@@ -67,7 +67,7 @@ impl<'a, T: Copy> Store<'a, T> {
     fn room_block(&self, n: usize) -> Result<(), PoolFault>
         ensures { result ≡ judged (fault_block (bank self.now) n) }
     {
-        if self.blocks.supply().offers(class_for(n)) {
+        if self.blocks.offers(class_for(n)) {
             return Ok(());
         }
         Err(no_block(n))

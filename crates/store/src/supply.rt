@@ -21,6 +21,22 @@ fn enough(count: u32, size: u32, left: u32) -> bool
     count > 0 || size <= left
 }
 
+impl SizeTable {
+    // Whether a block of a class can be had, of the freed ones or of so many untouched units.
+    #[tactic(auto, using(crate::proofs::Models::offer_size, crate::proofs::Models::offer_none, crate::proofs::Models::offer_past, crate::proofs::Stores::count_at))]
+    fn offers(&self, left: u32, class: u32) -> bool
+        ensures { result ≡ obtainable (stock self.now left) class }
+    {
+        if class == 0 {
+            return true;
+        }
+        if class > 29 {
+            return false;
+        }
+        enough(self.record_of(class - 1).count, units_of(class), left)
+    }
+}
+
 // What blocks are taken from: the freed ones of each size, and so many untouched units.
 #[derive(Clone, Copy)]
 pub(crate) struct Supply {
@@ -38,25 +54,21 @@ impl<'a, T> Blocks<'a, T> {
             left: self.limit - self.used,
         }
     }
+
+    // Whether a block of a class can be had. One question reads the sizes where they lie: a supply is a copy of all.
+    pub(crate) fn offers(&self, class: u32) -> bool
+        ensures { result ≡ obtainable (stock self.now.sizes (self.now.limit - self.now.used)) class }
+    {
+        self.sizes.offers(self.limit - self.used, class)
+    }
 }
 
 impl Supply {
     // Whether a block of a class can be had.
-    #[tactic(auto, using(crate::proofs::Models::offer_size, crate::proofs::Models::offer_none, crate::proofs::Models::offer_past, crate::proofs::Stores::count_at))]
     pub(crate) fn offers(&self, class: u32) -> bool
         ensures { result ≡ obtainable (stock self.now.sizes self.now.left) class }
     {
-        if class == 0 {
-            return true;
-        }
-        if class > 29 {
-            return false;
-        }
-        enough(
-            self.sizes.record_of(class - 1).count,
-            units_of(class),
-            self.left,
-        )
+        self.sizes.offers(self.left, class)
     }
 
     // Counts a block of a class as had.

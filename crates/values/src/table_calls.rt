@@ -11,14 +11,17 @@ use crate::table::ValueTable;
 use ir::entities::{Type, Value};
 use ir::value_data::{ValueData, ValueDataPacked};
 
-// The fields that keep a definition. That its type fits beside the tag stays a clause: a struct that says so would be
-// built and taken apart again at each call.
+// The fields that keep a definition, by `match` as in `resolve`. That its type fits beside the tag stays a clause: a
+// struct that says so would be built and taken apart again at each call.
 fn fields(data: ValueData) -> ValueDataPacked
     requires { Narrow «data» }
     ensures says { result ≡ stored «data» }
     ensures back { definition result ≡ «data» }
 {
-    data.pack().unwrap_or(ValueDataPacked::RETIRED)
+    match data.pack() {
+        Ok(packed) => packed,
+        Err(_) => ValueDataPacked::RETIRED,
+    }
 }
 
 // Writes a definition at a place.

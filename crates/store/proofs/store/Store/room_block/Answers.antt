@@ -1,4 +1,5 @@
-use Rattle.std.proofs.Common.{◌≡◌, true, false, Err, sym, ap, ◌∙◌}
+use Rattle.std.proofs.Common.{◌≡◌, ◌-◌, true, false, Err, sym, refl, ap, ◌∙◌}
+use Rattle.store.specs.declared.supply.Supply.{Supply}
 use Rattle.store.specs.Units.{smallest}
 use Rattle.store.specs.Bank.{bank, stock, obtainable}
 use Rattle.store.specs.Faults.{judged}
@@ -9,8 +10,8 @@ use Rattle.store.proofs.store.Store.room_block.Goals as goal
 pub returns-then-offers : goal.returns-then-offers
 returns-then-offers g c =
     let s = c.args.self.now in
-    let p = c.supply.result in
-    let q = store_supply s p c.supply.ensures in
+    let p : Supply = record { sizes = s.blocks.sizes; left = s.blocks.limit - s.blocks.used } in
+    let q = store_supply s p refl in
     let e = ap (obtainable (stock p.sizes p.left)) c.class_for.ensures in
     let o : obtainable (bank c.args.self.now) (smallest c.args.n) ≡ true =
     same_offer (bank s) (stock p.sizes p.left) (smallest c.args.n) q.0 q.1 ∙ (sym e ∙ sym c.if-offers.ensures) in
@@ -19,8 +20,8 @@ returns-then-offers g c =
 pub returns : goal.returns
 returns g c =
     let s = c.args.self.now in
-    let p = c.supply.result in
-    let q = store_supply s p c.supply.ensures in
+    let p : Supply = record { sizes = s.blocks.sizes; left = s.blocks.limit - s.blocks.used } in
+    let q = store_supply s p refl in
     let e = ap (obtainable (stock p.sizes p.left)) c.class_for.ensures in
     let o : obtainable (bank c.args.self.now) (smallest c.args.n) ≡ false =
     same_offer (bank s) (stock p.sizes p.left) (smallest c.args.n) q.0 q.1 ∙ (sym e ∙ sym c.if-offers.ensures) in
