@@ -1,5 +1,5 @@
 -- Every edit but flattening keeps uses alive.
-use Rattle.std.proofs.Common.{◌≡◌, ℕ, suc, ◌+◌, ◌*◌, ◌<◌, ◌≤◌, true, not, ltb, leb, ◌≢◌, List, [], ◌∷◌, ◌++◌, map, length, get_or, take, drop, set, None, Ok, Err, Option, Result, sym, refl, ap, ◌∙◌, subst, inl, inr, arith, Some}
+use Rattle.std.proofs.Common.{◌≡◌, ℕ, suc, ◌+◌, ◌*◌, ◌<◌, ◌≤◌, true, not, ltb, leb, ◌≢◌, List, [], ◌∷◌, ◌++◌, map, length, get_or, take, drop, set, None, Ok, Err, Option, Result, sym, refl, ap, ◌∙◌, subst, ◌⊎◌, inl, inr, arith, Some}
 use Rattle.std.specs.List.{remove as removed, AllByRecursion as All}
 use Rattle.std.proofs.lemmas.List.{get_or-set_same, get_or-set_other, length-set, length_push, length-append}
 use Rattle.std.proofs.ByRecursion.{All-push, All-set, All-map}
@@ -189,72 +189,72 @@ module _ (s t : State) (a : Answer) (good : Good s) (spare : SpareLabels s.graph
         good.counts ∙ sym (length-set s.table.rows i.0 r),
       )
 
-  -- each edit, given what flattening does
-  pub uses_kept : (does resolve_all_aliases s ≡ done a t → UsesKept t) → (x : Edit) → does x s ≡ done a t → UsesKept t
-  uses_kept flat make_block e =
+  -- each edit, but flattening
+  pub uses_or_flat : (x : Edit) → does x s ≡ done a t → UsesKept t ⊎ (x ≡ resolve_all_aliases)
+  uses_or_flat make_block e = inl (
       let g : Graph = s.graph in
       graph_kept a_block (when (leb g.limits.blocks g.blocks) (Full g.limits.blocks) ∷ []) (block g.blocks)
       (record { defs = g.defs; blocks = g.blocks + 1; insts = g.insts; words = g.words; labels = g.labels; starts = g.starts; limits = g.limits })
-      (refl, refl, refl) e (λ p k. calls_alive s good s.graph.defs k)
-  uses_kept flat (make_inst_results i ts reuse) e =
+      (refl, refl, refl) e (λ p k. calls_alive s good s.graph.defs k))
+  uses_or_flat (make_inst_results i ts reuse) e = inl (
       graph_kept a_number (make_inst_results_rows s.graph i ts reuse) (length ts) (with_results s.graph i ts reuse) (refl, refl, refl) e
-      (λ p k. others_alive _ k (written_only s.graph.words (result_list s.graph i) _) (result_away s.graph i))
-  uses_kept flat (clear_results i) e =
+      (λ p k. others_alive _ k (written_only s.graph.words (result_list s.graph i) _) (result_away s.graph i)))
+  uses_or_flat (clear_results i) e = inl (
       graph_kept is_plain (unknown_inst s.graph i ∷ []) tt (without_results s.graph i) (refl, refl, refl) e
-      (λ p k. others_alive _ k (cleared_only s.graph.words (result_list s.graph i)) (result_away s.graph i))
-  uses_kept flat (replace_result v ty) e =
+      (λ p k. others_alive _ k (cleared_only s.graph.words (result_list s.graph i)) (result_away s.graph i)))
+  uses_or_flat (replace_result v ty) e = inl (
       let d : ValueData = at s.graph.defs v in
       graph_kept a_value (replace_rows s.graph v ty (is_result d)) (value (length s.graph.defs))
       (replaced s.graph (result_list s.graph (inst_of d)) (number d) (Inst ty (number d) (inst_of d))) (refl, refl, refl) e
       (λ p k. others_alive _ k
       (changed_only s.graph.words (result_list s.graph (inst_of d)) (number d) (value (length s.graph.defs)))
-      (result_away s.graph (inst_of d)))
-  uses_kept flat (replace_block_param v ty) e =
+      (result_away s.graph (inst_of d))))
+  uses_or_flat (replace_block_param v ty) e = inl (
       let d : ValueData = at s.graph.defs v in
       graph_kept a_value (replace_rows s.graph v ty (is_param d)) (value (length s.graph.defs))
       (replaced s.graph (param_list s.graph (block_of d)) (number d) (Param ty (number d) (block_of d))) (refl, refl, refl) e
       (λ p k. others_alive _ k
       (changed_only s.graph.words (param_list s.graph (block_of d)) (number d) (value (length s.graph.defs)))
-      (param_of v p.1.1.1.0))
-  uses_kept flat (remove_block_param v) e =
+      (param_of v p.1.1.1.0)))
+  uses_or_flat (remove_block_param v) e = inl (
       let d : ValueData = at s.graph.defs v in
       graph_kept is_plain (remove_rows s.graph v) tt (param_removed s.graph (block_of d) (number d)) (refl, refl, refl) e
-      (λ p k. others_alive _ k (removed_at_only s.graph.words (param_list s.graph (block_of d)) (number d)) (param_of v p.1.1.0))
-  uses_kept flat (swap_remove_block_param v) e =
+      (λ p k. others_alive _ k (removed_at_only s.graph.words (param_list s.graph (block_of d)) (number d)) (param_of v p.1.1.0)))
+  uses_or_flat (swap_remove_block_param v) e = inl (
       let d : ValueData = at s.graph.defs v in
       graph_kept a_number (remove_rows s.graph v) (number d) (param_swap_removed s.graph (block_of d) (number d)) (refl, refl, refl) e
-      (λ p k. others_alive _ k (swap_removed_at_only s.graph.words (param_list s.graph (block_of d)) (number d)) (param_of v p.1.1.0))
-  uses_kept flat (append_block_param b ty) e =
+      (λ p k. others_alive _ k (swap_removed_at_only s.graph.words (param_list s.graph (block_of d)) (number d)) (param_of v p.1.1.0)))
+  uses_or_flat (append_block_param b ty) e = inl (
       graph_kept a_value (append_param_rows s.graph b ty) (value (length s.graph.defs)) (param_appended s.graph b ty) (refl, refl, refl) e
-      (λ p k. others_alive _ k (pushed_only s.graph.words (param_list s.graph b) (value (length s.graph.defs))) (params_of b p.0))
-  uses_kept flat (attach_block_param b v) e =
+      (λ p k. others_alive _ k (pushed_only s.graph.words (param_list s.graph b) (value (length s.graph.defs))) (params_of b p.0)))
+  uses_or_flat (attach_block_param b v) e = inl (
       graph_kept is_plain (attach_param_rows s.graph b v) tt (param_attached s.graph b v) (refl, refl, refl) e
-      (λ p k. others_alive _ k (pushed_only s.graph.words (param_list s.graph b) v) (params_of b p.0))
-  uses_kept flat (detach_block_params b out) e =
+      (λ p k. others_alive _ k (pushed_only s.graph.words (param_list s.graph b) v) (params_of b p.0)))
+  uses_or_flat (detach_block_params b out) e = inl (
       graph_kept is_detached (detach_rows s.graph b out) (length (params s.graph b), written_over out (params s.graph b))
       (without_params s.graph b) (refl, refl, refl) e
-      (λ p k. others_alive _ k (cleared_only s.graph.words (param_list s.graph b)) (params_of b p.0))
-  uses_kept flat (change_to_alias d v) e =
+      (λ p k. others_alive _ k (cleared_only s.graph.words (param_list s.graph b)) (params_of b p.0)))
+  uses_or_flat (change_to_alias d v) e = inl (
       graph_kept is_plain (change_rows s.graph d v) tt
       (with_defs s.graph (aliased s.graph.defs d (end_of s.graph.defs v))) (refl, refl, refl) e
-      (λ p k. calls_alive s good _ k)
-  uses_kept flat (replace_with_aliases d i) e =
+      (λ p k. calls_alive s good _ k))
+  uses_or_flat (replace_with_aliases d i) e = inl (
       graph_kept is_plain (replace_aliases_rows s.graph d i) tt
       (without_results (with_defs s.graph (aliased_each s.graph.defs (results s.graph d) (results s.graph i))) d) (refl, refl, refl) e
-      (λ p k. others_alive _ k (cleared_only s.graph.words (result_list s.graph d)) (result_away s.graph d))
-  uses_kept flat (union x y) e =
+      (λ p k. others_alive _ k (cleared_only s.graph.words (result_list s.graph d)) (result_away s.graph d)))
+  uses_or_flat (union x y) e = inl (
       graph_kept a_value (union_rows s.graph x y) (value (length s.graph.defs))
       (with_defs s.graph (s.graph.defs ++ Union (type (at s.graph.defs x)) x y ∷ [])) (refl, refl, refl) e
-      (λ p k. calls_alive s good _ k)
-  uses_kept flat (append_argument i j arg) e =
+      (λ p k. calls_alive s good _ k))
+  uses_or_flat (append_argument i j arg) e = inl (
       let l : ℕ = call_list s.graph i j in
       graph_kept is_plain (append_argument_rows s.graph i j arg) tt (argument_appended s.graph i j arg) (refl, refl, refl) e
       (λ p k. call_alive s.graph.defs k (pushed_only s.graph.words l (word_of (encoded arg)))
       (all_appended (Fair (Usable s.graph.defs)) (items_of s.graph.words l) (word_of (encoded arg))
       (calls_alive s good s.graph.defs k i j (call_of i j p.1.0))
       (encoded_fair (Usable s.graph.defs) arg p.1.1.1.1.0
-      (usable_values s.graph (in_list (value_of arg)) p.1.1.0 p.1.1.1.0))))
-  uses_kept flat (remove i j n) e =
+      (usable_values s.graph (in_list (value_of arg)) p.1.1.0 p.1.1.1.0)))))
+  uses_or_flat (remove i j n) e = inl (
       let l : ℕ = call_list s.graph i j in
       let one : suc n ≡ n + 1 = omega arith in
       graph_kept is_plain (remove_argument_rows s.graph i j n) tt
@@ -262,18 +262,18 @@ module _ (s t : State) (a : Answer) (good : Good s) (spare : SpareLabels s.graph
       (λ p k. call_alive s.graph.defs k (removed_at_only s.graph.words l (n + 1))
       (subst (λ (m : ℕ). All (Fair (Usable s.graph.defs)) (drop 1 (removed (items_of s.graph.words l) m))) one
       (all_removed (Fair (Usable s.graph.defs)) (items_of s.graph.words l) n
-      (calls_alive s good s.graph.defs k i j (call_of i j p.1.0)))))
-  uses_kept flat (set_label v (starts ss)) e =
+      (calls_alive s good s.graph.defs k i j (call_of i j p.1.0))))))
+  uses_or_flat (set_label v (starts ss)) e = inl (
       let d = graph_done s is_plain (set_label_rows s.graph v (starts ss)) tt (labelled s.graph v (starts ss)) a t e in
       label_kept v.0 (Some label.Starts) (written s.graph.starts v.0 ss)
       (usable_values s.graph (v ∷ []) d.0.0 d.0.1.0).0.0
-      (λ from target q. absurd cc) d.1
-  uses_kept flat (set_label v (alias from target)) e =
+      (λ from target q. absurd cc) d.1)
+  uses_or_flat (set_label v (alias from target)) e = inl (
       let d = graph_done s is_plain (set_label_rows s.graph v (alias from target)) tt (labelled s.graph v (alias from target)) a t e in
       let u = usable_values s.graph (v ∷ target ∷ []) d.0.0 d.0.1.0 in
       label_kept v.0 (Some (label.Alias from target)) (cleared s.graph.starts v.0) u.0.0
-      (λ f w q. let p : target ≡ w = cc in subst (Usable s.graph.defs) p u.1.0) d.1
-  uses_kept flat (make_inst op os ts) e =
+      (λ f w q. let p : target ≡ w = cc in subst (Usable s.graph.defs) p u.1.0) d.1)
+  uses_or_flat (make_inst op os ts) e = inl (
       let i : InstId = inst s.graph.insts in
       let r : TableRow = record { opcode = op; operands = os } in
       state_kept an_inst (make_inst_rows s os ts) i
@@ -287,8 +287,8 @@ module _ (s t : State) (a : Answer) (good : Good s) (spare : SpareLabels s.graph
         (λ d j h. aimed_args (Fair (Usable s.graph.defs)) s.graph i 0 ts s.graph.words (call_list s.graph d j)
             (calls_alive s good s.graph.defs k.0 d j h)),
         count_more r ∙ ap count (sym t-is),
-      ))
-  uses_kept flat (clone_inst i) e =
+      )))
+  uses_or_flat (clone_inst i) e = inl (
       let g : Graph = s.graph in
       let new : InstId = inst g.insts in
       let r : TableRow = row s.table i.0 in
@@ -308,8 +308,8 @@ module _ (s t : State) (a : Answer) (good : Good s) (spare : SpareLabels s.graph
         (λ d j h. args_away (Fair (Usable ds)) (written_only (calls_copied g i new) (result_list g new) _) (call_list g d j)
             (result_away g new d j h) (two d j h)),
         count_more r ∙ ap count (sym t-is),
-      ))
-  uses_kept flat (map_inst_values i f) e =
+      )))
+  uses_or_flat (map_inst_values i f) e = inl (
       let U : Value → Type 0 = Usable s.graph.defs in
       let os : List Value = operands s.table i.0 in
       state_kept is_plain (map_rows s i f) tt
@@ -320,8 +320,8 @@ module _ (s t : State) (a : Answer) (good : Good s) (spare : SpareLabels s.graph
       (all_unmap U f (inst_values s i) (usable_values s.graph (map f (inst_values s i)) p.1.0 p.1.1.0)) in
       let c = all_split (λ v. U (f v)) (values_in (arguments s.graph i 0)) (values_in (arguments s.graph i 1)) h.1 in
       inst_kept s.graph.defs k.0 i (map f os) (map (renamed_word f)) (map (renamed_word f)) (All-map U f os h.0)
-      (renamed_alive U f (arguments s.graph i 0) c.0) (renamed_alive U f (arguments s.graph i 1) c.1))
-  uses_kept flat (overwrite_inst_values i vs) e =
+      (renamed_alive U f (arguments s.graph i 0) c.0) (renamed_alive U f (arguments s.graph i 1) c.1)))
+  uses_or_flat (overwrite_inst_values i vs) e = inl (
       let U : Value → Type 0 = Usable s.graph.defs in
       let os : List Value = operands s.table i.0 in
       let us : List Value = drop (length os) vs in
@@ -341,5 +341,12 @@ module _ (s t : State) (a : Answer) (good : Good s) (spare : SpareLabels s.graph
       let c = all_take_split U m n us h.1 in
       inst_kept s.graph.defs k.0 i (take (length os) vs) (λ ws. poured ws us) (λ ws. poured ws (drop m us)) h.0
       (poured_fair U xs us (calls_alive s good s.graph.defs k.0 i 0 (omega arith)) c.0)
-      (poured_fair U ys (drop m us) (calls_alive s good s.graph.defs k.0 i 1 (omega arith)) c.1))
-  uses_kept flat resolve_all_aliases e = flat e
+      (poured_fair U ys (drop m us) (calls_alive s good s.graph.defs k.0 i 1 (omega arith)) c.1)))
+  uses_or_flat resolve_all_aliases e = inr refl
+
+  -- each edit, given what flattening does
+  pub uses_kept : (does resolve_all_aliases s ≡ done a t → UsesKept t) → (x : Edit) → does x s ≡ done a t → UsesKept t
+  uses_kept flat x e = elim (uses_or_flat x e) [
+    | inl u ↦ u
+    | inr p ↦ flat (subst (λ (y : Edit). does y s ≡ done a t) p e)
+  ]

@@ -112,11 +112,17 @@ pub(crate) fn typed_values(
     Ok(())
 }
 
+fn names(reuse: &[Option<Value>], v: Value) -> bool
+    ensures { result ≡ among v (reused reuse.now) }
+{
+    reuse.contains(&Some(v))
+}
+
 fn unique_entry(entry: Option<Value>, later: &[Option<Value>]) -> Result<(), GraphFault>
     ensures { result ≡ judged (named_again entry later.now) }
 {
     if let Some(v) = entry {
-        if later.contains(&Some(v)) {
+        if names(later, v) {
             return Err(GraphFault::Twice(v.0));
         }
     }
