@@ -37,34 +37,27 @@ fn numbered_as(data: ValueData, num: u16) -> ValueData
     }
 }
 
-// The number of a definition, less one.
-fn number_below(data: ValueData) -> u16
-    ensures { result ≡ number «data» - 1 }
-{
-    match data {
-        ValueData::Param { num, .. } => num.saturating_sub(1),
-        ValueData::Inst { num, .. } => num.saturating_sub(1),
-        ValueData::Alias { .. } => 0,
-        ValueData::Union { .. } => 0,
-    }
-}
-
 // Gives a parameter another number.
 fn renumber(defs: &mut Defs<'_>, v: Value, num: u16)
     ensures holds { graph_of defs.new ≡ with_defs (graph_of defs.old) (slice_set (graph_of defs.old).defs v.0 (numbered num (at (graph_of defs.old).defs v))) }
 {
-    let data = numbered_as(defs.values.read(v), num);
     if defs.values.knows(v) {
-        defs.redefine(v, data);
+        let data = defs.values.read(v);
+        defs.redefine(v, numbered_as(data, num));
     }
 }
 
-// Lowers a parameter's number by one.
+// Lowers a parameter's number by one. It asks before it reads, and writes a parameter alone: each turn of the loop below
+// then has one way from the read to the write.
 fn lower(defs: &mut Defs<'_>, v: Value)
     ensures holds { graph_of defs.new ≡ with_defs (graph_of defs.old) (slice_set (graph_of defs.old).defs v.0 (numbered (number (at (graph_of defs.old).defs v) - 1) (at (graph_of defs.old).defs v))) }
 {
-    let num = number_below(defs.values.read(v));
-    renumber(defs, v, num);
+    if defs.values.knows(v) {
+        if let ValueData::Param { ty, num, block } = defs.values.read(v) {
+            let num = num.saturating_sub(1);
+            defs.redefine(v, ValueData::Param { ty, num, block });
+        }
+    }
 }
 
 // Lowers the numbers of the parameters in a list from a place on. By place: a list is not lent by one field of the
